@@ -1,0 +1,4 @@
+pub mod DigitLaws
+pub mod Laying
+pub mod ByteLaws
+pub mod Codecs

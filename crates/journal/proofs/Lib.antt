@@ -1,0 +1,4 @@
+mod Calls
+mod Decimals
+mod Fields
+mod Pieces

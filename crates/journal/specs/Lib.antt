@@ -1,0 +1,9 @@
+pub mod Answers
+pub mod Calls
+pub mod Fields
+pub mod Lines
+pub mod Names
+pub mod Numbers
+pub mod Tallies
+pub mod Words
+pub mod Layers
