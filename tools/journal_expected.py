@@ -1,28 +1,33 @@
 #!/usr/bin/env python3
 """Writes crates/journal/stdout: what the journal program has to answer to the files of its test.
 
-A reading of the journal's format of its own, with dates by Python's datetime.
+A reading of the journal's format of its own, with dates by Python's datetime and notes by notes.py.
 """
 import datetime
 import pathlib
 import re
+import sys
+
+sys.dont_write_bytecode = True  # leaves no tools/__pycache__
+import notes
 
 CRATE = pathlib.Path(__file__).resolve().parent.parent / "crates" / "journal"
-NOT_SERVED = (
-    b"open add withdraw link unlink member present clear leave readmit judge role request read write cover"
-).split()
-EXPECTED = {
-    1: "the name of a call",
-    2: "an instant (0 to 4294967295, in digits)",
-    3: "the end of the line",
-}
+NOT_SERVED = b"open add withdraw link unlink member present clear leave readmit judge role request cover".split()
 
 
-def unreadable(place, found):
-    return "unreadable: expected %s at word %d, found %s" % (EXPECTED[place], place, found)
+def instant(word):
+    if re.fullmatch(rb"0*[0-9]{1,10}", word) and int(word) < 2**32:
+        return int(word)
 
 
-def civil(seconds):
+def note(word):
+    if word == b"-":
+        return b""
+    if re.fullmatch(rb"([0-9A-Fa-f]{2})+", word):
+        return bytes.fromhex(word.decode())
+
+
+def when(seconds):
     try:
         time = datetime.datetime(2000, 1, 1) + datetime.timedelta(seconds=seconds)
     except OverflowError:
@@ -32,19 +37,46 @@ def civil(seconds):
     return time.strftime("%Y-%m-%d %H:%M:%S weekday %w")
 
 
+def read(note):
+    try:
+        return notes.words(notes.read(note))
+    except notes.Fault as fault:
+        return str(fault)
+
+
+def write(note):
+    try:
+        return "note " + notes.write(notes.read(note)).hex()
+    except notes.Fault as fault:
+        return str(fault)
+
+
+INSTANT = "an instant (0 to 4294967295, in digits)", instant
+NOTE = "a note (pairs of hexadecimal digits, or -)", note
+CALLS = {b"when": (when, INSTANT), b"read": (read, NOTE), b"write": (write, NOTE)}
+
+
+def unreadable(expected, place, words):
+    if place > len(words):
+        found = "none"
+    else:
+        found = "another word" if words[place - 1] else "an empty word"
+    return f"unreadable: expected {expected} at word {place}, found {found}"
+
+
 def answer(line):
-    words = line.split(b" ")
-    for place in (1, 2, 3):
-        if place > len(words):
-            return civil(int(words[1])) if place == 3 else unreadable(place, "none")
-        word = words[place - 1]
-        if word == b"":
-            return unreadable(place, "an empty word")
-        if place == 1 and word in NOT_SERVED:
-            return "unreadable: %s is not served yet" % word.decode()
-        known = word == b"when" if place == 1 else re.fullmatch(rb"[0-9]+", word) and int(word) < 2**32
-        if place == 3 or not known:
-            return unreadable(place, "another word")
+    name, *rest = words = line.split(b" ")
+    if name in NOT_SERVED:
+        return f"unreadable: {name.decode()} is not served yet"
+    if name not in CALLS:
+        return unreadable("the name of a call", 1, words)
+    call, (kind, reader) = CALLS[name]
+    value = reader(rest[0]) if rest else None
+    if value is None:
+        return unreadable(kind, 2, words)
+    if len(rest) > 1:
+        return unreadable("the end of the line", 3, words)
+    return call(value)
 
 
 counts = dict.fromkeys(["calls", "accepted", "refused", "permitted", "denied", "unreadable"], 0)

@@ -16,7 +16,7 @@ use Rattle.std.proofs.shelf.Elements.{all-take, all-drop}
 use Rattle.bits.specs.Digits.{digits, bits}
 use Rattle.bits.specs.Faults.{ended}
 use Rattle.bits.specs.Codec.{field, bytes-of, text, Bytes, Lawful}
-use Rattle.bits.proofs.DigitLaws.{length-digits, number-digits, digits-number, length-bits, bits-append, bits-drop}
+use Rattle.bits.proofs.DigitLaws.{length-digits, under-digits, under-bits, number-digits, digits-number, length-bits, bits-append, bits-drop}
 
 -- what a test lets through
 pub ok-only : {X E : Type 0} (t : Bool) (x y : X) (z : E) → cond t (Ok x) (Err z) ≡ Ok y → (t ≡ true) × (x ≡ y)
@@ -42,6 +42,7 @@ field-wide w ds p h = ap (λ t. cond (t && leb (p + w) (length ds)) (Ok (number 
 
 pub lawful-field : (w : ℕ) → w ≤ 128 → Lawful (λ v. v < 2 ^ w) (digits w) (field w)
 lawful-field w few = record {
+  binary = λ v _. under-digits w v;
   back = λ v small a b.
       let l : length (digits w v) ≡ w = length-digits w v in
       let all = a ++ (digits w v ++ b) in
@@ -63,7 +64,7 @@ lawful-field w few = record {
       );
 }
 
-bytes-of-bits : (t b : List ℕ) → Bytes t → bytes-of (length t) (bits t ++ b) ≡ t
+pub bytes-of-bits : (t b : List ℕ) → Bytes t → bytes-of (length t) (bits t ++ b) ≡ t
 unfolding bits
 bytes-of-bits [] b h = refl
 bytes-of-bits (x ∷ t) b h =
@@ -74,17 +75,17 @@ bytes-of-bits (x ∷ t) b h =
     let tail : drop 8 ((digits 8 x ++ bits t) ++ b) ≡ bits t ++ b = ap (drop 8) assoc ∙ drop-at (digits 8 x) (bits t ++ b) 8 l in
     (λ i. head i ∷ (ap (bytes-of (length t)) tail ∙ bytes-of-bits t b (h .1)) i)
 
-length-bytes-of : (n : ℕ) (ds : List ℕ) → length (bytes-of n ds) ≡ n
+pub length-bytes-of : (n : ℕ) (ds : List ℕ) → length (bytes-of n ds) ≡ n
 length-bytes-of zero ds = refl
 length-bytes-of (suc n) ds = ap suc (length-bytes-of n (drop 8 ds))
 
-small-bytes-of : (n : ℕ) (ds : List ℕ) → Under 2 ds → 8 * n ≤ length ds → Bytes (bytes-of n ds)
+pub small-bytes-of : (n : ℕ) (ds : List ℕ) → Under 2 ds → 8 * n ≤ length ds → Bytes (bytes-of n ds)
 small-bytes-of zero ds u h = tt
 small-bytes-of (suc n) ds u h =
     let l : length (take 8 ds) ≡ 8 = length-take-le 8 ds (omega arith) in
     (subst (λ k. number 2 (take 8 ds) < 2 ^ k) l (number-lt 2 (take 8 ds) (all-take _ 8 ds u)), small-bytes-of n (drop 8 ds) (all-drop _ 8 ds u) (simp length-drop (omega arith)))
 
-bits-bytes-of : (n : ℕ) (ds : List ℕ) → Under 2 ds → 8 * n ≤ length ds → bits (bytes-of n ds) ≡ take (8 * n) ds
+pub bits-bytes-of : (n : ℕ) (ds : List ℕ) → Under 2 ds → 8 * n ≤ length ds → bits (bytes-of n ds) ≡ take (8 * n) ds
 unfolding bits
 bits-bytes-of zero ds u h = refl
 bits-bytes-of (suc n) ds u h =
@@ -97,6 +98,7 @@ bits-bytes-of (suc n) ds u h =
 pub lawful-text : (n : ℕ) → Lawful (λ t. (length t ≡ n) × Bytes t) bits (text n)
 unfolding text
 lawful-text n = record {
+  binary = λ t _. under-bits t;
   back = λ t h a b.
       let all = a ++ (bits t ++ b) in
       let w : length (bits t) ≡ 8 * n = length-bits t ∙ ap (λ k. 8 * k) (h .0) in
@@ -124,7 +126,7 @@ text-part bs k n h small =
     ap (bytes-of n) (bits-drop k bs (omega arith) ∙ cut) ∙ ap (λ m. bytes-of m (bits part ++ bits (drop n (drop k bs)))) (sym l)
     ∙ bytes-of-bits part _ (all-take _ n (drop k bs) (all-drop _ k bs small))
 
-bytes-from : (bs : List ℕ) → ((i : ℕ) → getD bs i 0 < 256) → Bytes bs
+pub bytes-from : (bs : List ℕ) → ((i : ℕ) → getD bs i 0 < 256) → Bytes bs
 bytes-from [] h = tt
 bytes-from (b ∷ bs) h = (h 0, bytes-from bs (λ i. h (suc i)))
 

@@ -33,9 +33,11 @@ text n ds p = cond (leb (p + 8 * n) (length ds)) (Ok (bytes-of n (drop p ds), p 
 abbrev pub Bytes : List ℕ → Type 0
 Bytes = Every (λ b. b < 2 ^ 8)
 
--- the reading f belongs to the bit form: the form of a lawful item reads back as that item, whatever
--- stands before and behind it; and where f reads an item, it is lawful and its form stands there
+-- the reading f belongs to the bit form: the form of a lawful item is a row of bits that reads back as
+-- that item, whatever stands before and behind it; and where f reads an item, it is lawful and its form
+-- stands there
 pub record Lawful {X : Type 0} (ok : X → Type 0) (form : X → List ℕ) (f : Reads X) : Type 0 where
+  pub binary : (x : X) → ok x → Under 2 (form x)
   pub back : (x : X) → ok x → (a b : List ℕ) → f (a ++ (form x ++ b)) (length a) ≡ Ok (x, length a + length (form x))
   pub forth : (ds : List ℕ) → Under 2 ds → (p : ℕ) (x : X) (q : ℕ) → f ds p ≡ Ok (x, q)
       → ok x × (q ≡ p + length (form x)) × (take (length (form x)) (drop p ds) ≡ form x)

@@ -1,4 +1,5 @@
 mod Calls
 mod Decimals
 mod Fields
+mod Noted
 mod Pieces

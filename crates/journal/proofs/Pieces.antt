@@ -1,11 +1,14 @@
--- A text up to its first separator is its first piece. Assumes nothing.
+-- A text up to its first separator is its first piece, and no piece is longer than the text. Assumes nothing.
+use mathlib.Core.Bool.{true, false, cond}
 use mathlib.Core.List.{List, [], _∷_}
 use mathlib.Core.Path.{_≡_, refl}
-use Prim.Native.Nat.{ℕ, suc, zero, _<_}
+use Prim.Native.Nat.{ℕ, suc, zero, _-_, _≤_, _<_}
 use native.Mathlib.Omega.{arith}
+use lib.Dec.{eqb}
 use lib.ListN.{length, getD, take, drop}
 use Rattle.std.proofs.shelf.Tests.{eq-eqb, ne-eqb}
-use Rattle.journal.specs.Words.{pieces}
+use Rattle.notes.specs.Pieces.{in-front, pieces}
+use Rattle.journal.specs.Words.{Within}
 
 -- no separator stands among the first n bytes
 abbrev pub Free : ℕ → List ℕ → ℕ → Type 0
@@ -27,3 +30,18 @@ pieces-cut sep (b ∷ bs) (suc i) inside here free =
     let rest = pieces-cut sep bs i (omega arith) here (λ k h. free (suc k) (omega arith)) in
     let other = ne-eqb b sep (free 0 (omega arith)) in
     rw (other, rest)
+
+within-in-front : (b n : ℕ) (ps : List (List ℕ)) → 0 < n → Within (n - 1) ps → Within n ps → Within n (in-front b ps)
+within-in-front b n [] some less within = (omega arith, tt)
+within-in-front b n (p ∷ ps) some less within = (omega (arith, less .0), within .1)
+
+pub pieces-within : (sep : ℕ) (bs : List ℕ) (n : ℕ) → length bs ≤ n → Within n (pieces sep bs)
+unfolding pieces
+pieces-within sep [] n fits = (fits, tt)
+pieces-within sep (b ∷ bs) n fits =
+    let less = pieces-within sep bs (n - 1) (omega arith) in
+    let within = pieces-within sep bs n (omega arith) in
+    elim (eqb b sep) as (λ s. Within n (cond s ([] ∷ pieces sep bs) (in-front b (pieces sep bs)))) [
+      | true ↦ (omega arith, within)
+      | false ↦ within-in-front b n (pieces sep bs) (omega arith) less within
+    ]

@@ -3,6 +3,7 @@ use mathlib.Core.List.{List, [], _∷_}
 use mathlib.Core.Logic.{_⊎_}
 use mathlib.Core.Path.{_≡_}
 use Prim.Native.Nat.{ℕ}
+use denote.Ref.{RefT}
 use Rattle.std.specs.declared.result.Result.{Result}
 use Rattle.std.specs.declared.result.Result.the-variants.{Ok, Err}
 use Rattle.journal.specs.declared.call.Call.{Call}
@@ -10,11 +11,12 @@ use Rattle.journal.specs.declared.call.Call.the-variants as call
 use Rattle.journal.specs.declared.name.CallName.{CallName}
 use Rattle.journal.specs.declared.name.CallName.the-variants.{Open, Add, Withdraw, Link, Unlink, Member, Present, Clear, Leave, Readmit, Judge, Role, Request, Read, Write, Cover, When}
 use Rattle.journal.specs.declared.unreadable.Kind.{Kind}
-use Rattle.journal.specs.declared.unreadable.Kind.the-variants.{Name, Instant, End}
+use Rattle.journal.specs.declared.unreadable.Kind.the-variants.{Name, Instant, Note, End}
 use Rattle.journal.specs.declared.unreadable.Unreadable.{Unreadable}
 use Rattle.journal.specs.declared.unreadable.Unreadable.the-variants.{NotServed}
 use Rattle.journal.specs.Fields.{fieldAt, fault, FaultAt}
 use Rattle.journal.specs.Names.{spelling}
+use Rattle.journal.specs.Notes.{Noted}
 use Rattle.journal.specs.Numbers.{Decimal}
 
 -- the words after the name, and no others, make the call; none do where the name is not served
@@ -32,8 +34,8 @@ Makes Readmit words c = ⊥
 Makes Judge words c = ⊥
 Makes Role words c = ⊥
 Makes Request words c = ⊥
-Makes Read words c = ⊥
-Makes Write words c = ⊥
+Makes Read words c = (word : List ℕ) × (note : RefT (List ℕ)) × (words ≡ word ∷ []) × Noted word note × (c ≡ call.Read note)
+Makes Write words c = (word : List ℕ) × (note : RefT (List ℕ)) × (words ≡ word ∷ []) × Noted word note × (c ≡ call.Write note)
 Makes Cover words c = ⊥
 Makes When words c = (instant : List ℕ) × (n : ℕ) × (words ≡ instant ∷ []) × Decimal instant n × (c ≡ call.When n)
 
@@ -56,8 +58,8 @@ layout Readmit = []
 layout Judge = []
 layout Role = []
 layout Request = []
-layout Read = []
-layout Write = []
+layout Read = Note ∷ End ∷ []
+layout Write = Note ∷ End ∷ []
 layout Cover = []
 layout When = Instant ∷ End ∷ []
 

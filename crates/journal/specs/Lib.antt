@@ -3,6 +3,7 @@ pub mod Calls
 pub mod Fields
 pub mod Lines
 pub mod Names
+pub mod Notes
 pub mod Numbers
 pub mod Tallies
 pub mod Words

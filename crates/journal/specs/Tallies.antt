@@ -1,7 +1,7 @@
 -- The counts of a journal. Assumes nothing.
 use Prim.Native.Nat.{ℕ, _+_, _-_, _^_, min}
 use Rattle.journal.specs.declared.answer.Answer.{Answer}
-use Rattle.journal.specs.declared.answer.Answer.the-variants.{Refused, Civil, Unreadable}
+use Rattle.journal.specs.declared.answer.Answer.the-variants.{Refused, Civil, Rule, Note, Unreadable}
 use Rattle.journal.specs.declared.tally.Tally.{Tally}
 
 abbrev pub zeros : Tally
@@ -15,4 +15,6 @@ raised n = min (n + 1) (2 ^ 64 - 1)
 abbrev pub counted : Answer → Tally → Tally
 counted (Refused r) t = record { calls = raised (t .calls); accepted = t .accepted; refused = raised (t .refused); permitted = t .permitted; denied = t .denied; unreadable = t .unreadable }
 counted (Civil c) t = record { calls = raised (t .calls); accepted = t .accepted; refused = t .refused; permitted = t .permitted; denied = t .denied; unreadable = t .unreadable }
+counted (Rule u) t = record { calls = raised (t .calls); accepted = t .accepted; refused = t .refused; permitted = t .permitted; denied = t .denied; unreadable = t .unreadable }
+counted (Note w) t = record { calls = raised (t .calls); accepted = t .accepted; refused = t .refused; permitted = t .permitted; denied = t .denied; unreadable = t .unreadable }
 counted (Unreadable u) t = record { calls = raised (t .calls); accepted = t .accepted; refused = t .refused; permitted = t .permitted; denied = t .denied; unreadable = raised (t .unreadable) }

@@ -1,9 +1,12 @@
 // The readers of the words of a call, one for each kind of word.
+ghost use lib.ListN.{length};
 ghost use Rattle.journal.specs.Fields.{fieldAt, Took, TookWord, Named, Ended};
-ghost use Rattle.journal.specs.declared.unreadable.Kind.the-variants.{Name, Instant, End};
+ghost use Rattle.journal.specs.declared.unreadable.Kind.the-variants.{Name, Instant, Note, End};
+ghost use Rattle.journal.specs.Notes.{Noted};
 ghost use Rattle.journal.specs.Numbers.{Decimal};
-ghost use Rattle.journal.specs.Words.{left};
+ghost use Rattle.journal.specs.Words.{left, Within};
 use crate::name::CallName;
+use crate::note;
 use crate::number::decimal;
 use crate::unreadable::Field;
 use crate::unreadable::Kind;
@@ -36,6 +39,26 @@ pub fn instant(words: &mut Words<'_>, place: u8) -> Result<u32, Unreadable>
     let word = next_word(words, field)?;
     match decimal(word) {
         Some(number) => Ok(number),
+        None => Err(Unreadable::Other(field)),
+    }
+}
+
+// A note, of which the space takes the bytes.
+pub fn note<'a>(
+    words: &mut Words<'_>,
+    place: u8,
+    space: &'a mut [u8],
+) -> Result<&'a [u8], Unreadable>
+    requires { ⌜ Within (length (now space)) (left (now words)) ⌝ }
+    ensures { λ r. ⌜ Took Noted (fieldAt place Note) (left (now (words .entry))) r (left (now (words .exit))) ⌝ }
+{
+    let field = Field {
+        place,
+        kind: Kind::Note,
+    };
+    let word = next_word(words, field)?;
+    match note::note(word, space) {
+        Some(note) => Ok(note),
         None => Err(Unreadable::Other(field)),
     }
 }

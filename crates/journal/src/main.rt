@@ -4,12 +4,14 @@ mod call;
 mod field;
 mod line;
 mod name;
+mod note;
 mod number;
 mod replay;
 mod report;
 mod tally;
 mod unreadable;
 mod words;
+mod written;
 
 use replay::Replay;
 use replay::Stopped;

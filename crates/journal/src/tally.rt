@@ -36,7 +36,7 @@ impl Tally {
         self.calls = self.calls.saturating_add(1);
         match answer {
             Answer::Refused(_) => self.refused = self.refused.saturating_add(1),
-            Answer::Civil(_) => {}
+            Answer::Civil(_) | Answer::Rule(_) | Answer::Note(_) => {}
             Answer::Unreadable(_) => self.unreadable = self.unreadable.saturating_add(1),
         }
     }

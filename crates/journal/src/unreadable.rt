@@ -8,6 +8,7 @@ use std::fmt;
 pub enum Kind {
     Name,
     Instant,
+    Note,
     // No word: the line has ended.
     End,
 }
@@ -34,6 +35,7 @@ pub impl fmt::Display for Field as FieldDisplay {
         let kind = match kind {
             Kind::Name => "the name of a call",
             Kind::Instant => "an instant (0 to 4294967295, in digits)",
+            Kind::Note => "a note (pairs of hexadecimal digits, or -)",
             Kind::End => "the end of the line",
         };
         write!(f, "expected {kind} at word {place}")

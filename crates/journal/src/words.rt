@@ -1,7 +1,8 @@
 // The words of a line, which stand apart by one blank.
 ghost use mathlib.Core.Path.{_≡_};
 ghost use mathlib.Core.List.{[], _∷_};
-ghost use Rattle.journal.specs.Words.{pieces, left, Handed};
+ghost use Rattle.journal.specs.Words.{left, Handed};
+ghost use Rattle.notes.specs.Pieces.{pieces};
 ghost use Rattle.std.specs.Options.{Cases};
 
 const BLANK: u8 = b' ';
