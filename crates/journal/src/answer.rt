@@ -37,7 +37,7 @@ const PAST_CALENDAR: Report = Report {
 
 impl Answer {
     // The answer to a line that is a call, or should be one. The space takes the bytes of its note.
-    pub fn of_line(line: &[u8], space: &mut [u8]) -> Answer
+    pub(crate) fn of_line(line: &[u8], space: &mut [u8]) -> Answer
         requires { ⌜ length (now line) ≤ length (now space) ⌝ }
         ensures { λ r. ⌜ Replied (pieces 32 (now (line .entry))) r ⌝ }
     {

@@ -19,7 +19,7 @@ pub enum Call<'a> {
 
 impl<'a> Call<'a> {
     // The call that the line spells. The space takes the bytes of its note.
-    pub fn read(line: &[u8], space: &'a mut [u8]) -> Result<Call<'a>, Unreadable>
+    pub(crate) fn read(line: &[u8], space: &'a mut [u8]) -> Result<Call<'a>, Unreadable>
         requires { ⌜ length (now line) ≤ length (now space) ⌝ }
         ensures { λ r. ⌜ ReadsLine (pieces 32 (now (line .entry))) r ⌝ }
     {

@@ -44,7 +44,7 @@ pub fn instant(words: &mut Words<'_>, place: u8) -> Result<u32, Unreadable>
 }
 
 // A note, of which the space takes the bytes.
-pub fn note<'a>(
+pub(crate) fn note<'a>(
     words: &mut Words<'_>,
     place: u8,
     space: &'a mut [u8],

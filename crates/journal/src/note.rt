@@ -9,7 +9,7 @@ ghost use Rattle.std.specs.Options.{Cases};
 ghost use Rattle.std.specs.Text.{digitValue};
 
 // The note that the word writes, in the front of the space.
-pub fn note<'a>(word: &[u8], space: &'a mut [u8]) -> Option<&'a [u8]>
+pub(crate) fn note<'a>(word: &[u8], space: &'a mut [u8]) -> Option<&'a [u8]>
     requires { ⌜ length (now word) ≤ length (now space) ⌝ }
     ensures { λ r. ⌜ Cases r ((note : RefT (List ℕ)) → Noted (now (word .entry)) note → ⊥) (λ note. Noted (now (word .entry)) note) ⌝ }
 {
