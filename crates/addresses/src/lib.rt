@@ -1,4 +1,6 @@
 // Addresses as words write them.
+#![tactic(auto)]
+
 mod cut;
 mod form;
 mod laws;

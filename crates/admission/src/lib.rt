@@ -1,4 +1,6 @@
 // Which requests a rule admits, and which rules it covers.
+#![tactic(auto)]
+
 mod admitting;
 mod covering;
 mod laws;

@@ -1,5 +1,7 @@
 // The bit layer: numbers of 0 to 128 bits and whole bytes, read from and written to a row of bytes,
 // the most significant bit first.
+#![tactic(auto)]
+
 mod byte;
 mod fault;
 mod laws;

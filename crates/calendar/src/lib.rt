@@ -1,4 +1,6 @@
 // The Gregorian calendar of the years 2000 to 2099: instants, and the civil times that they read as.
+#![tactic(auto)]
+
 mod civil;
 mod first_days;
 mod instant;

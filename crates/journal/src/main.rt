@@ -1,4 +1,6 @@
 // Replays a journal: the files that are named as arguments, one after the other, or standard input.
+#![tactic(auto)]
+
 mod answer;
 mod call;
 mod field;

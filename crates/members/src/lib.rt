@@ -1,4 +1,6 @@
 // Member lists: who has which standing. A table of rows, and two layers that lie over any member list.
+#![tactic(auto)]
+
 mod flat_roll;
 mod full;
 mod leaver_table;

@@ -1,4 +1,6 @@
 // Notes: rules in their bit form.
+#![tactic(auto)]
+
 mod block;
 mod child_type;
 mod constraint;

@@ -1,4 +1,6 @@
 // The register: stored rules, links between targets and policies, and decisions.
+#![tactic(auto)]
+
 mod fault;
 mod laws;
 mod register;

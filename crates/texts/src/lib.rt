@@ -1,4 +1,6 @@
 // The texts that rules name: identities, domains, standings and patterns.
+#![tactic(auto)]
+
 mod alphabet;
 mod domain;
 mod full_form;
