@@ -29,13 +29,13 @@ loop-left-preserved c =
     let inside : start ≤ length old = rw (length_bits c.args.out.now) (omega arith) in
     let next : i + n ≡ c.args.width - (left - n) = omega arith in
     let run = c.args.v / 2 ^ (left - n) % 2 ^ n in
-    let written : bits (set out c.loop-left.byte c.with-run.result) ≡ laid (bits out) (start + i) (digits n run) =
-    ap (λ b. bits (set out c.loop-left.byte b)) (c.with-run.ensures ∙ ap (replaced (get_or out c.loop-left.byte 0) c.loop-left.used n) c.run-of-number-run.ensures)
+    let written : bits (set out c.loop-left.byte c.with_run.result) ≡ laid (bits out) (start + i) (digits n run) =
+    ap (λ b. bits (set out c.loop-left.byte b)) (c.with_run.ensures ∙ ap (replaced (get_or out c.loop-left.byte 0) c.loop-left.used n) c.run_of_number-run.ensures)
     ∙ bits_replaced out c.loop-left.byte c.loop-left.used n run (start + i) (omega arith) (omega arith) (mod_below _ (2 ^ n) (pow_pos n)) c.loop-left.invariant.2 in (
       omega arith,
       omega arith,
       omega arith,
       written ∙ ap (λ l. laid l (start + i) (digits n run)) c.loop-left.invariant.3 ∙ laid_more old start i left n c.args.v inside (omega arith)
           ∙ ap (λ k. laid old start (digits k (c.args.v / 2 ^ (left - n)))) next,
-      λ k h. drop-set-lt k out c.loop-left.byte c.with-run.result (omega arith) ∙ c.loop-left.invariant.4 k h,
+      λ k h. drop-set-lt k out c.loop-left.byte c.with_run.result (omega arith) ∙ c.loop-left.invariant.4 k h,
     )

@@ -21,7 +21,7 @@ returns c =
     let next : self.pos + 8 * n ≡ self.pos + n * 8 = omega arith in
     record {
       kept = c.advance.ensures.kept;
-      part = record { inside = omega arith; is = c.part-at-part.ensures };
-      whole = λ _. text_ok bytes self.pos n whole (omega arith) self.small ∙ (λ i. Ok (sym c.part-at-part.ensures i, (next ∙ sym c.advance.ensures.moved) i));
+      part = record { inside = omega arith; is = c.part_at-part.ensures };
+      whole = λ _. text_ok bytes self.pos n whole (omega arith) self.small ∙ (λ i. Ok (sym c.part_at-part.ensures i, (next ∙ sym c.advance.ensures.moved) i));
       inside = λ h. absurd (h whole);
     }

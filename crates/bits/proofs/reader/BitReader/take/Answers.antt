@@ -25,6 +25,6 @@ returns c =
     let few : w ≤ 128 = omega arith in
     record {
       kept = c.advance.ensures.kept;
-      small = subst (λ v. v < 2 ^ w) (sym c.number-at-v.ensures) (number_below self.src.now self.pos w);
-      cases = field_ok w (bits self.src.now) self.pos few long ∙ (λ i. Ok (sym c.number-at-v.ensures i, sym c.advance.ensures.moved i));
+      small = subst (λ v. v < 2 ^ w) (sym c.number_at-v.ensures) (number_below self.src.now self.pos w);
+      cases = field_ok w (bits self.src.now) self.pos few long ∙ (λ i. Ok (sym c.number_at-v.ensures i, sym c.advance.ensures.moved i));
     }

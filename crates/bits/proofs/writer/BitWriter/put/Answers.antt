@@ -7,7 +7,7 @@ pub returns : goal.returns
 returns c =
     let self = c.args.self.now in
     let w = c.args.width in
-    let room : self.pos + w ≤ 8 * length self.out.now = true-leb (self.pos + w) (8 * length self.out.now) c.if-not-has-room.ensures in
+    let room : self.pos + w ≤ 8 * length self.out.now = true-leb (self.pos + w) (8 * length self.out.now) c.if-not-has_room.ensures in
     let few : w ≤ 128 = omega arith in
     record {
       test = sym (λ i. le-leb w 128 few i && le-leb (self.pos + w) (8 * length self.out.now) room i);

@@ -7,15 +7,15 @@ pub returns : goal.returns
 returns c =
     let self = c.args.self.now in
     let text = c.args.text.now in
-    let room : self.pos + length text * 8 ≤ 8 * length self.out.now = true-leb (self.pos + length text * 8) (8 * length self.out.now) c.if-not-has-room.ensures in
+    let room : self.pos + length text * 8 ≤ 8 * length self.out.now = true-leb (self.pos + length text * 8) (8 * length self.out.now) c.if-not-has_room.ensures in
     let same : self.pos + 8 * length text ≤ 8 * length self.out.now = omega arith in
     record {
       test = sym (le-leb (self.pos + 8 * length text) (8 * length self.out.now) same);
       cases = record {
         room = omega arith;
         moved = omega (arith, length_bits text);
-        written = c.lay-bytes.ensures.field;
-        behind = λ k h. c.lay-bytes.ensures.behind k (omega arith);
+        written = c.lay_bytes.ensures.field;
+        behind = λ k h. c.lay_bytes.ensures.behind k (omega arith);
         size = omega arith;
         lent = refl;
       };
