@@ -15,8 +15,9 @@ import sys
 
 TOP = "crates"
 WORD = re.compile(r"[^\W\d][\w'′-]*")
-DECLARED = re.compile(r"^\s*(?:(?:abbrev|unfoldable)\s+)?(?:pub\s+)?(?:(?:record|data)\s+)?([^\W\d][\w'′-]*)(?=(?:\s+[({][^=]*)?\s+:\s)(?!.*:\s+goal\.)")
+DECLARED = re.compile(r"^\s*(?:(?:abbrev|unfoldable)\s+)?(?:pub\s+)?(?:(?:record|data)\s+)?([^\W\d][\w'′-]*)(?=(?:\s+[({][^=]*)?\s+:(?:\s|$))(?!.*:\s+goal\.)")
 ALIAS = re.compile(r"\bas ([^\W\d][\w'′-]*)")
+IMPORT = re.compile(r"^\s*(?:ghost )?use ([^\s{]+)\.\{([^}]*)\}")
 
 # A name whose plain respelling is a field, a constant, a method or a word of the library: what it becomes instead.
 TAKEN = {"child-type": "child_type_of", "inNote": "broken_at", "link-call": "link_or_unlink"}
@@ -71,8 +72,21 @@ def declared(texts):
     return names
 
 
+def foreign(text):
+    """The names that the file imports from libraries that are not this repository's."""
+    crates = os.listdir(TOP)
+    names = set()
+    for line in text.split("\n"):
+        m = IMPORT.match(line)
+        if m and m.group(1).split(".")[1] not in crates:
+            names.update(WORD.findall(m.group(2)))
+    return names
+
+
 def turned(path, text, names):
     antt = path.endswith(".antt")
+    kept = foreign(text)
+    names = {old: new for old, new in names.items() if old not in kept}
     lines = []
     for line in text.split("\n"):
         code, comment = split(line, "--" if antt else "//")

@@ -26,7 +26,7 @@ use Rattle.notes.specs.declared.originator.EntryKind.{EntryKind}
 use Rattle.notes.specs.declared.originator.EntryKind.TheVariants.{All as AllKind, Pattern, Domain, Standing}
 use Rattle.notes.specs.ConstraintsLemmas.{list_sound}
 use Rattle.notes.specs.SetsLemmas.{contains_member}
-use Rattle.notes.specs.Sound.{type_sound, context-sound}
+use Rattle.notes.specs.Sound.{type_sound, context_sound}
 use Rattle.admission.specs.Admitting.{kind_matches, originator_matches, types_admit, in_context, contexts_admit, rule_is_for, rule_admits}
 use Rattle.admission.specs.Covering.{kind_covers, originator_covers, originators_cover, lists_cover, rule_covers}
 use Rattle.admission.specs.Laws.{EntriesSound, RulesSound}
@@ -43,27 +43,27 @@ same_text : (t u : List ℕ) → same t u ≡ true → u ≡ t
 same_text t u e = sym ((same_is t u).0 e)
 
 module _ (home : List ℕ) (few more : Pairs) (lacks : LacksNone few more) (identity : List ℕ) where
-  kinds-sound :
+  kinds_sound :
       (k l : EntryKind) (t u : List ℕ) → text_lawful k t ≡ true → kind_covers k l home t u ≡ true
       → kind_matches l home few identity u ≡ true → kind_matches k home more identity t ≡ true
-  kinds-sound AllKind l t u w c m = refl
-  kinds-sound Pattern AllKind t u w c m = absurd (clash c)
-  kinds-sound Pattern Pattern t u w c m = matches_through (full home t) (full home u) identity (both_true (short u) _ c).1 m
-  kinds-sound Pattern Domain t u w c m = absurd (clash c)
-  kinds-sound Pattern Standing t u w c m = absurd (clash c)
-  kinds-sound Domain AllKind t u w c m = absurd (clash c)
-  kinds-sound Domain Pattern t u w c m = begins_matched (47 ∷ 47 ∷ (t ++ (47 ∷ []))) (full home u) identity (named_starless t w) (both_true (short u) _ c).1 m
-  kinds-sound Domain Domain t u w c m = ap (λ d. in_domain d identity) (sym (same_text t u c)) ∙ m
-  kinds-sound Domain Standing t u w c m = absurd (clash c)
-  kinds-sound Standing AllKind t u w c m = absurd (clash c)
-  kinds-sound Standing Pattern t u w c m = absurd (clash c)
-  kinds-sound Standing Domain t u w c m = absurd (clash c)
-  kinds-sound Standing Standing t u w c m = lacks identity t (ap (few identity) (sym (same_text t u c)) ∙ m)
+  kinds_sound AllKind l t u w c m = refl
+  kinds_sound Pattern AllKind t u w c m = absurd (clash c)
+  kinds_sound Pattern Pattern t u w c m = matches_through (full home t) (full home u) identity (both_true (short u) _ c).1 m
+  kinds_sound Pattern Domain t u w c m = absurd (clash c)
+  kinds_sound Pattern Standing t u w c m = absurd (clash c)
+  kinds_sound Domain AllKind t u w c m = absurd (clash c)
+  kinds_sound Domain Pattern t u w c m = begins_matched (47 ∷ 47 ∷ (t ++ (47 ∷ []))) (full home u) identity (named_starless t w) (both_true (short u) _ c).1 m
+  kinds_sound Domain Domain t u w c m = ap (λ d. in_domain d identity) (sym (same_text t u c)) ∙ m
+  kinds_sound Domain Standing t u w c m = absurd (clash c)
+  kinds_sound Standing AllKind t u w c m = absurd (clash c)
+  kinds_sound Standing Pattern t u w c m = absurd (clash c)
+  kinds_sound Standing Domain t u w c m = absurd (clash c)
+  kinds_sound Standing Standing t u w c m = lacks identity t (ap (few identity) (sym (same_text t u c)) ∙ m)
 
 pub entries_sound : EntriesSound
 entries_sound home o p w c few more lacks identity m =
     let lawful = both_true (text_lawful o.kind o.text) (each is_byte o.text) (both_true (length_lawful o.kind (length o.text)) _ w).1 in
-    kinds-sound home few more lacks identity o.kind p.kind o.text p.text lawful.0 c m
+    kinds_sound home few more lacks identity o.kind p.kind o.text p.text lawful.0 c m
 
 module _ (home : List ℕ) (few more : Pairs) (lacks : LacksNone few more) (identity : List ℕ) where
   covers_one :
@@ -75,26 +75,26 @@ module _ (home : List ℕ) (few more : Pairs) (lacks : LacksNone few more) (iden
       ⊎_elim (λ h. or_left _ _ (entries_sound home o p lawful.0 h few more lacks identity m)) (λ h. or_right _ _ (covers_one os p lawful.1 h m))
       (or_true (originator_covers home o p) _ c)
 
-  covers-each :
+  covers_each :
       (os ps : List OriginatorValue) → each originator_lawful os ≡ true → originators_cover home os ps ≡ true
       → some (originator_matches home few identity) ps ≡ true → some (originator_matches home more identity) os ≡ true
-  covers-each os [] w c m = absurd (clash m)
-  covers-each os (p ∷ ps) w c m =
+  covers_each os [] w c m = absurd (clash m)
+  covers_each os (p ∷ ps) w c m =
       let h = both_true (some (λ o. originator_covers home o p) os) _ c in
-      ⊎_elim (λ a. covers_one os p w h.0 a) (λ a. covers-each os ps w h.1 a) (or_true (originator_matches home few identity p) _ m)
+      ⊎_elim (λ a. covers_one os p w h.0 a) (λ a. covers_each os ps w h.1 a) (or_true (originator_matches home few identity p) _ m)
 
-types-sound :
+types_sound :
     (o : Operation) (xs ys : List ℕ) (t : Option ℕ) → list_covers eqb xs ys ≡ true → types_admit o ys t ≡ true → types_admit o xs t ≡ true
-types-sound Create xs ys t c a = list_sound eqb eqb type_sound xs ys t c a
-types-sound Retrieve xs ys t c a = refl
-types-sound Update xs ys t c a = refl
-types-sound Delete xs ys t c a = refl
-types-sound Discover xs ys t c a = refl
-types-sound Notify xs ys t c a = refl
+types_sound Create xs ys t c a = list_sound eqb eqb type_sound xs ys t c a
+types_sound Retrieve xs ys t c a = refl
+types_sound Update xs ys t c a = refl
+types_sound Delete xs ys t c a = refl
+types_sound Discover xs ys t c a = refl
+types_sound Notify xs ys t c a = refl
 
 contexts_sound : (cs ds : List ContextValue) (q : RequestValue) → list_covers context_covers cs ds ≡ true → contexts_admit ds q ≡ true → contexts_admit cs q ≡ true
 contexts_sound cs ds q =
-    list_sound in_context context_covers (λ c d q. context-sound c d (civil_of q.instant) q.address q.country) cs ds (Some q)
+    list_sound in_context context_covers (λ c d q. context_sound c d (civil_of q.instant) q.address q.country) cs ds (Some q)
 
 flags_sound : (r s q : Bool) → (not r || s) ≡ true → (not s || q) ≡ true → (not r || q) ≡ true
 flags_sound true true q c a = a
@@ -118,32 +118,32 @@ rules_sound home r s w c few more lacks q a =
     let b2 = both_true (has_operation s.operations q.operation) (types_admit q.operation s.types q.child_type_of) b1.1 in
     let flags = flags_sound r.authenticated s.authenticated q.authenticated c2.0 b1.0 in
     let operations = contains_member 6 r.operations s.operations (operation_number q.operation) c3.0 b2.0 in
-    let types = types-sound q.operation r.types s.types q.child_type_of c5.0 b2.1 in
+    let types = types_sound q.operation r.types s.types q.child_type_of c5.0 b2.1 in
     and_true _ _ (and_true _ _ flags (and_true _ _ operations types))
-    (and_true _ _ (contexts_sound r.contexts s.contexts q c5.1 a2.0) (covers-each home few more lacks q.identity r.originators s.originators w3.0 c4.0 a2.1))
+    (and_true _ _ (contexts_sound r.contexts s.contexts q c5.1 a2.0) (covers_each home few more lacks q.identity r.originators s.originators w3.0 c4.0 a2.1))
 
 -- a rule admits with more pairs what it admits with fewer
-kinds-more :
+kinds_more :
     (home : List ℕ) (few more : Pairs) → LacksNone few more → (identity : List ℕ) (k : EntryKind) (t : List ℕ)
     → kind_matches k home few identity t ≡ true → kind_matches k home more identity t ≡ true
-kinds-more home few more lacks identity AllKind t m = m
-kinds-more home few more lacks identity Pattern t m = m
-kinds-more home few more lacks identity Domain t m = m
-kinds-more home few more lacks identity Standing t m = lacks identity t m
+kinds_more home few more lacks identity AllKind t m = m
+kinds_more home few more lacks identity Pattern t m = m
+kinds_more home few more lacks identity Domain t m = m
+kinds_more home few more lacks identity Standing t m = lacks identity t m
 
 some_more :
     (home : List ℕ) (few more : Pairs) → LacksNone few more → (identity : List ℕ) (os : List OriginatorValue)
     → some (originator_matches home few identity) os ≡ true → some (originator_matches home more identity) os ≡ true
 some_more home few more lacks identity [] m = m
 some_more home few more lacks identity (o ∷ os) m =
-    ⊎_elim (λ h. or_left _ _ (kinds-more home few more lacks identity o.kind o.text h)) (λ h. or_right _ _ (some_more home few more lacks identity os h))
+    ⊎_elim (λ h. or_left _ _ (kinds_more home few more lacks identity o.kind o.text h)) (λ h. or_right _ _ (some_more home few more lacks identity os h))
     (or_true (originator_matches home few identity o) _ m)
 
-pub members-more :
+pub members_more :
     (home : List ℕ) (few more : Pairs) → LacksNone few more → (r : RuleValue) (q : RequestValue)
     → rule_admits home few r q ≡ true → rule_admits home more r q ≡ true
 unfolding rule_admits
-members-more home few more lacks r q a =
+members_more home few more lacks r q a =
     let a1 = both_true (rule_is_for r q) _ a in
     let a2 = both_true (contexts_admit r.contexts q) (some (originator_matches home few q.identity) r.originators) a1.1 in
     and_true _ _ a1.0 (and_true _ _ a2.0 (some_more home few more lacks q.identity r.originators a2.1))

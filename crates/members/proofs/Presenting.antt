@@ -42,9 +42,9 @@ module _ (held : List MemberRow) (below : Pairs) (identity standing : List ℕ) 
       let parts = and_parts (same i identity) (same s standing) e in
       (λ k. listed held ((same_is i identity).0 parts.0 k) ((same_is s standing).0 parts.1 k)) ∙ there
 
-  pub gains-one :
+  pub gains_one :
       length identity ≤ 40 → length standing ≤ 40 → (i s : List ℕ)
       → with_presented (held ++ (row_of identity standing ∷ [])) below i s ≡ (with_presented held below i s || (same i identity && same s standing))
-  gains-one hi hs i s =
+  gains_one hi hs i s =
       ap (λ b. b || below i s) (some_push (row_is i s) held (row_of identity standing) ∙ ap (λ b. listed held i s || b) (row_holds i s identity standing hi hs))
       ∙ or_swap (listed held i s) (same i identity && same s standing) (below i s)

@@ -28,13 +28,13 @@ module _ {X V : Type 0} (admits : X → V → Bool) (covers : X → X → Bool)
   list_sound (x ∷ xs) (y ∷ ys) (Some v) c a = each_sound (x ∷ xs) (y ∷ ys) v c a
 
 -- what the mark says of a value that is lent beside it
-pub offered-admits :
+pub offered_admits :
     {X V : Type 0} (admits : X → V → Bool) (xs : List X) (there : Bool) (v : V)
     → list_admits admits xs (offered there v) ≡ (none xs || (there && some (λ x. admits x v) xs))
 unfolding list_admits
-offered-admits admits xs true v = refl
-offered-admits admits [] false v = refl
-offered-admits admits (x ∷ xs) false v = refl
+offered_admits admits xs true v = refl
+offered_admits admits [] false v = refl
+offered_admits admits (x ∷ xs) false v = refl
 
 -- lists of what items stand for
 pub some_map : {X Y : Type 0} (p : Y → Bool) (f : X → Y) (xs : List X) → some p (map f xs) ≡ some (λ x. p (f x)) xs
@@ -49,19 +49,19 @@ none_map : {X Y : Type 0} (f : X → Y) (xs : List X) → none (map f xs) ≡ no
 none_map f [] = refl
 none_map f (x ∷ xs) = refl
 
-pub list-admits-map :
+pub list_admits_map :
     {X Y V : Type 0} (admits : Y → V → Bool) (f : X → Y) (xs : List X) (v : Option V) → list_admits admits (map f xs) v ≡ list_admits (λ x. admits (f x)) xs v
 unfolding list_admits
-list-admits-map admits f xs None = none_map f xs
-list-admits-map admits f xs (Some v) = λ i. none_map f xs i || some_map (λ y. admits y v) f xs i
+list_admits_map admits f xs None = none_map f xs
+list_admits_map admits f xs (Some v) = λ i. none_map f xs i || some_map (λ y. admits y v) f xs i
 
-pub each-some-map :
+pub each_some_map :
     {X Y : Type 0} (covers : Y → Y → Bool) (f g : X → Y) (xs ys : List X)
     → each (λ y. some (λ x. covers x y) (map f xs)) (map g ys) ≡ each (λ y. some (λ x. covers (f x) (g y)) xs) ys
-each-some-map covers f g xs [] = refl
-each-some-map covers f g xs (y ∷ ys) = λ i. some_map (λ x. covers x (g y)) f xs i && each-some-map covers f g xs ys i
+each_some_map covers f g xs [] = refl
+each_some_map covers f g xs (y ∷ ys) = λ i. some_map (λ x. covers x (g y)) f xs i && each_some_map covers f g xs ys i
 
-pub list-covers-map :
+pub list_covers_map :
     {X Y : Type 0} (covers : Y → Y → Bool) (f : X → Y) (xs ys : List X) → list_covers covers (map f xs) (map f ys) ≡ list_covers (λ x y. covers (f x) (f y)) xs ys
 unfolding list_covers
-list-covers-map covers f xs ys = λ i. none_map f xs i || (not (none_map f ys i) && each-some-map covers f f xs ys i)
+list_covers_map covers f xs ys = λ i. none_map f xs i || (not (none_map f ys i) && each_some_map covers f f xs ys i)

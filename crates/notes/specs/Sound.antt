@@ -24,10 +24,10 @@ country_sound a b v c d =
     let d1 = both_true (b.first == v.first) (b.second == v.second) d in
     and_true _ _ (type_sound a.first b.first v.first c1.0 d1.0) (type_sound a.second b.second v.second c1.1 d1.1)
 
-pub context-sound :
+pub context_sound :
     (c d : ContextValue) (time : CivilTime) (address : Option Address) (country : Option Country)
     → context_covers c d ≡ true → context_admits d time address country ≡ true → context_admits c time address country ≡ true
-context-sound c d time address country h a =
+context_sound c d time address country h a =
     let h1 = both_true (list_covers window_covers c.windows d.windows) _ h in
     let h2 = both_true (list_covers block_covers c.blocks d.blocks) (list_covers country_same c.countries d.countries) h1.1 in
     let a1 = both_true (list_admits window_admits d.windows (Some time)) _ a in

@@ -123,10 +123,10 @@ module _ {o : Opening} {t : Tables} {b : Book} (a : Agrees o t b) where
     long : (y : RuleRow) → opening (with_row t i y) ≡ o
     long y = (λ j. record { home = t.home; rows = length-set t.rows i y j; targets = length t.targets }) ∙ a.alike
 
-    pub add-agrees :
+    pub add_agrees :
         (y : RuleRow) (e : Entry) → stands (in_book b) e.policy e.number ≡ false → x.used ≡ false → y.used ≡ true → entry_of y ≡ e
         → Agrees o (with_row t i y) (record { rules = e ∷ b.rules; links = b.links })
-    add-agrees y e fresh free used is = record {
+    add_agrees y e fresh free used is = record {
       alike = long y;
       rules = λ f.
           let z : ◌≡◌ {A = ℕ} (cond (hits f x) 1 0) 0 = rw free in
@@ -209,7 +209,7 @@ step_agrees o (add p n note) t b x t' a s =
     let e : Entry = record { policy = p; number = n; rule = (entry_of z).rule } in
     subst (λ u. Agrees o u (entered p n (note_reads note) b)) (sym is)
     (subst (λ r. Agrees o (with_row t i z) (entered p n r b)) (sym holds.rule_is)
-    (add-agrees a i y at z e fresh free holds.used (λ j. record { policy = holds.policy j; number = holds.number j; rule = (entry_of z).rule }))))
+    (add_agrees a i y at z e fresh free holds.used (λ j. record { policy = holds.policy j; number = holds.number j; rule = (entry_of z).rule }))))
 step_agrees o (withdraw p n) t b x t' a s =
     settled a t' x (withdraw_refusal (in_book b) p n) _ (struck p n b) (answer_by_book a (withdraw p n) x s.answer) s.later
     (λ none (i, y, at, found, is). subst (λ u. Agrees o u (struck p n b)) (sym is) (withdraw_agrees a i y at p n found))

@@ -10,7 +10,7 @@ use Rattle.notes.specs.declared.rule.Side.TheVariants.{Privileges, SelfPrivilege
 use Rattle.admission.specs.Admitting.{rule_admits}
 use Rattle.admission.specs.Covering.{rule_covers}
 use Rattle.admission.specs.Requests.{RequestValue}
-use Rattle.admission.proofs.Sound.{rules_sound, members-more}
+use Rattle.admission.proofs.Sound.{rules_sound, members_more}
 use Rattle.register.specs.declared.request.Target.{Target}
 use Rattle.register.specs.declared.request.Target.TheVariants.{Number, Policy}
 use Rattle.register.specs.Answers.{Answer, accepted, refused, stands, too_high, unless_refused, withdraw_refusal}
@@ -113,13 +113,13 @@ refused_not : (x : Refusal) (a : Answer) → a ≡ refused x → a ≡ accepted 
 refused_not x a e h = let z : ◌≡◌ {A = ℕ} 0 1 = cc in absurd (omega arith)
 
 -- an addition that the first accepts is accepted by the second
-pub unless-added :
+pub unless_added :
     (home : List ℕ) (x y : Option Refusal) (r s : Answer) (c c' b b' : Book) → r ≡ unless_refused x → s ≡ unless_refused y → (r ≡ accepted → s ≡ accepted)
     → Ahead home b b' → Ahead home b c' → (r ≡ accepted → s ≡ accepted → Ahead home c c') → Ahead home (unless x c b) (unless y c' b')
-unless-added home (Some v) (Some w) r s c c' b b' h k ok a more both = a
-unless-added home (Some v) None r s c c' b b' h k ok a more both = more
-unless-added home None (Some w) r s c c' b b' h k ok a more both = absurd (refused_not w s k (ok h))
-unless-added home None None r s c c' b b' h k ok a more both = both h k
+unless_added home (Some v) (Some w) r s c c' b b' h k ok a more both = a
+unless_added home (Some v) None r s c c' b b' h k ok a more both = more
+unless_added home None (Some w) r s c c' b b' h k ok a more both = absurd (refused_not w s k (ok h))
+unless_added home None None r s c c' b b' h k ok a more both = both h k
 
 same_side_of : (r s x : Side) → same_side r s ≡ true → same_side r x ≡ same_side s x
 same_side_of Privileges Privileges x e = refl
@@ -140,7 +140,7 @@ module _ (home : List ℕ) (few more : Pairs) (lacks : LacksNone few more) (l l'
   still_eligible (Policy p) e e' c t = (λ i. side_kept e e' SelfPrivileges c i && eqb (c.0 i) p) ∙ t
 
   still_admits : (q : RequestValue) (e e' : Entry) → AtLeast home e' e → rule_admits home few e.rule q ≡ true → rule_admits home more e'.rule q ≡ true
-  still_admits q e e' (p, n, inl s) t = ap (λ r. rule_admits home more r q) s ∙ members-more home few more lacks e.rule q t
+  still_admits q e e' (p, n, inl s) t = ap (λ r. rule_admits home more r q) s ∙ members_more home few more lacks e.rule q t
   still_admits q e e' (p, n, inr (w, c)) t = rules_sound home e'.rule e.rule w c few more lacks q t
 
   -- what passes still passes

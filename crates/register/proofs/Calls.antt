@@ -43,10 +43,10 @@ module _ (t : Tables) (p n : ℕ) where
             let whole : full (opening t) (holdings t) ≡ true = eq-eqb _ _ (all ∙ length-take 256 t.rows) in
             record { answer = by_tests false true (none_stands none) whole; later = refl }
 
-        pub add-placed :
+        pub add_placed :
             (i : ℕ) (y : RuleRow) → i < length (used_rows t) → ((d : RuleRow) → (get_or (used_rows t) i d).used ≡ false)
             → Holding p n note y → Served (add p n note) t accepted (with_row t i y)
-        add-placed i y h free holds =
+        add_placed i y h free holds =
             let off : hits every (get_or (used_rows t) i y) ≡ false = ap (λ u. u && true) (free y) in
             let room : full (opening t) (holdings t) ≡ false =
             ne_eqb _ _ (λ q. omega (arith, q, some_left_out (hits every) (used_rows t) i y h off, length-take 256 t.rows)) in

@@ -14,7 +14,7 @@ use Rattle.register.specs.Requests.{request_value, request_refusal, counts}
 use Rattle.register.specs.Season.{Met, calls, Through, number, Numbered, CountKept, ByTheBook, Accepted, CoveredBy, Wider, opened, more_added, more_linked, added, withdrawn, linked, unlinked, judged, NeverSmaller, Law}
 use Rattle.register.specs.Tables.{Tables, opening, holdings, After, Served, Placed}
 use Rattle.register.proofs.Agrees.{Agrees, open_agrees, step_agrees, answer_by_book}
-use Rattle.register.proofs.Ahead.{AtLeast, Ahead, ahead_empty, enter_both, enter_more, mark_both, mark_more, withdraw_both, unless_both, unless_more, unless-added, still_passes}
+use Rattle.register.proofs.Ahead.{AtLeast, Ahead, ahead_empty, enter_both, enter_more, mark_both, mark_more, withdraw_both, unless_both, unless_more, unless_added, still_passes}
 use Rattle.register.proofs.Counts.{count_mono}
 
 pub through_agrees : (o : Opening) (ms : List Met) (t : Tables) → Through o ms t → Agrees o t (book o (calls ms))
@@ -72,10 +72,10 @@ module _ (home : List ℕ) (p n : ℕ) (note note' : List ℕ) (b b' : Book) (a 
   at_least r s A e e' lawful (inr (_, (r₁, s₁, h, h', c))) =
       (refl, refl, inr (lawful, (λ i. rule_covers home (ok_same s s₁ (note_reads note') e' h' i) (ok_same r r₁ (note_reads note) e h i)) ∙ c))
 
-  entered-both :
+  entered_both :
       (A : Type 0) (t t' u u' : Tables) → (note' ≡ note) ⊎ (A × CoveredBy home note note') → Placed p n note t t' → Placed p n note' u u'
       → Ahead home (entered p n (note_reads note) b) (entered p n (note_reads note') b')
-  entered-both A t t' u u' c (i, x, y, at, free, holds, is) (j, z, w, at', free', holds', is') =
+  entered_both A t t' u u' c (i, x, y, at, free, holds, is) (j, z, w, at', free', holds', is') =
       subst (λ k. Ahead home (entered p n k b) (entered p n (note_reads note') b')) (sym holds.rule_is)
       (subst (λ k. Ahead home (entered p n (Ok (entry_of y).rule) b) (entered p n k b')) (sym holds'.rule_is)
       (enter_both a (rule_entry p n (entry_of y).rule) (rule_entry p n (entry_of w).rule)
@@ -93,12 +93,12 @@ ahead o t u (added {ms = ms} {ns = ns} {p = p} {n = n} {note = note} {note' = no
     let a = ahead o t₀ u₀ w h k in
     let b = book o (calls ms) in
     let b' = book o (calls ns) in
-    unless-added o.home (add_refusal o (in_book b) p n note) (add_refusal o (in_book b') p n note') x x'
+    unless_added o.home (add_refusal o (in_book b) p n note) (add_refusal o (in_book b') p n note') x x'
     (entered p n (note_reads note) b) (entered p n (note_reads note') b') b b'
     (answer_by_book (through_agrees o ms t₀ h) (add p n note) x s.answer)
     (answer_by_book (through_agrees o ns u₀ k) (add p n note') x' s'.answer)
     ok a (entered_more o.home p n note note' b b' a (note_reads note'))
-    (λ e e'. entered-both o.home p n note note' b b' a (Accepted x) t₀ t u₀ u c (placed p n note t₀ t x s e) (placed p n note' u₀ u x' s' e'))
+    (λ e e'. entered_both o.home p n note note' b b' a (Accepted x) t₀ t u₀ u c (placed p n note t₀ t x s e) (placed p n note' u₀ u x' s' e'))
 ahead o t u (withdrawn {ms = ms} {ns = ns} {p = p} {n = n} w) (t₀, h, s) (u₀, k, s') =
     withdraw_both o.home (book o (calls ms)) (book o (calls ns)) p n (ahead o t₀ u₀ w h k)
 ahead o t u (linked {ms = ms} {ns = ns} {t = k} {p = p} w ok) (t₀, h, s) (u₀, l, s') =
@@ -159,7 +159,7 @@ after_nothing denied t = refl
 pub judge_served : (q : Request) (pairs : Pairs) (t : Tables) (x : Answer) → Answers (opening t) (holdings t) (judge q pairs) x → Served (judge q pairs) t x t
 judge_served q pairs t x h = record { answer = h; later = after_nothing x t }
 
-pub judge-law :
+pub judge_law :
     (q : Request) (pairs : Pairs) (t : Tables) (x : Answer) → Served (judge q pairs) t x t
     → (o : Opening) (ms : List Met) → Through o ms t → Law o (record { call = judge q pairs; answer = x } ∷ ms)
-judge-law q pairs t x s o ms h = season_law o (record { call = judge q pairs; answer = x } ∷ ms) t (t, h, s)
+judge_law q pairs t x s o ms h = season_law o (record { call = judge q pairs; answer = x } ∷ ms) t (t, h, s)

@@ -29,10 +29,10 @@ none_linked (suc n) [] k h = absurd (omega arith)
 none_linked (suc n) (t ∷ ts) zero h = refl
 none_linked (suc n) (t ∷ ts) (suc k) h = none_linked n ts k (omega arith)
 
-pub cleared-opened :
+pub cleared_opened :
     (home : List ℕ) (rows : List RuleRow) (targets : List TargetRow) (t : Tables) → t.home ≡ home → Cleared rows targets t
     → Opened (record { home = home; rows = length rows; targets = length targets }) t
-cleared-opened home rows targets t e c =
+cleared_opened home rows targets t e c =
     let long = ap length c.rows_free ∙ same_length freed 256 rows in
     let wide = ap length c.targets_free ∙ same_length (λ _. unlinked) 4096 targets in
     record {

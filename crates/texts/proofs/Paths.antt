@@ -1,6 +1,6 @@
 -- A path, read byte by byte. Assumes nothing.
 use Rattle.std.proofs.Common.{◌≡◌, ℕ, suc, ◌+◌, ◌<◌, Bool, true, false, cond, not, ◌&&◌, ◌||◌, eqb, leb, List, [], ◌∷◌, length, get_or, drop, sym, refl, ap, ◌∙◌, zero-add, arith}
-use mathlib.Core.Bool.{and_true, and_false, and_assoc}
+use mathlib.Core.Bool.{and-true, and-false, and-assoc}
 use Rattle.std.proofs.lemmas.List.{at_drop_more}
 use Rattle.texts.specs.Lists.{each, none}
 use Rattle.texts.specs.Pieces.{pieces, in_front}
@@ -23,10 +23,10 @@ module _ (ok : ℕ → Bool) where
   opened_slash false ps = refl
 
   opened_byte : (inside : Bool) (b : ℕ) (ps : List (List ℕ)) → opened inside (in_front b ps) ≡ (ok b && opened true ps)
-  opened_byte true b [] = and_true (ok b && true)
-  opened_byte true b (p ∷ ps) = and_assoc (ok b) (each ok p) (each (segment ok) ps)
-  opened_byte false b [] = and_true (ok b && true)
-  opened_byte false b (p ∷ ps) = and_assoc (ok b) (each ok p) (each (segment ok) ps)
+  opened_byte true b [] = and-true (ok b && true)
+  opened_byte true b (p ∷ ps) = and-assoc (ok b) (each ok p) (each (segment ok) ps)
+  opened_byte false b [] = and-true (ok b && true)
+  opened_byte false b (p ∷ ps) = and-assoc (ok b) (each ok p) (each (segment ok) ps)
 
 abbrev within : ℕ → ℕ → ℕ → Bool
 within low high n = leb low n && leb n high
@@ -41,18 +41,18 @@ onward_start ok low high t = (λ i. within low high (zero-add (length (pieces 47
 
 pub onward_end : (ok : ℕ → Bool) (low high n : ℕ) (inside : Bool) → onward ok low high n inside [] ≡ (inside && within low high (n + 1))
 unfolding onward pieces
-onward_end ok low high n true = and_true _
-onward_end ok low high n false = and_false _
+onward_end ok low high n true = and-true _
+onward_end ok low high n false = and-false _
 
 swapped : (x y z : Bool) → (x && (y && z)) ≡ (y && (x && z))
 swapped x true z = refl
-swapped x false z = and_false x
+swapped x false z = and-false x
 
-onward-byte :
+onward_byte :
     (ok : ℕ → Bool) (low high n : ℕ) (inside : Bool) (b : ℕ) (t : List ℕ)
     → onward ok low high n inside (b ∷ t) ≡ (cond (eqb b 47) inside (ok b) && onward ok low high (cond (eqb b 47) (n + 1) n) (not (eqb b 47)) t)
 unfolding onward pieces
-onward-byte ok low high n inside b t =
+onward_byte ok low high n inside b t =
     let ps = pieces 47 t in
     let h = pieces_there 47 t in
     elim (eqb b 47) as (λ s. (within low high (n + length (cond s ([] ∷ ps) (in_front b ps))) && opened ok inside (cond s ([] ∷ ps) (in_front b ps)))
@@ -71,7 +71,7 @@ module _ (ok : ℕ → Bool) (low high n : ℕ) (inside : Bool) (xs : List ℕ) 
   rest m = onward ok low high m (not (eqb (get_or xs i 0) 47)) (drop (i + 1) xs)
 
   onward_more : onward ok low high n inside (drop i xs) ≡ (stands && rest (cond (eqb (get_or xs i 0) 47) (n + 1) n))
-  onward_more = at_drop_more (onward ok low high n inside) xs i 0 there ∙ onward-byte ok low high n inside (get_or xs i 0) (drop (i + 1) xs)
+  onward_more = at_drop_more (onward ok low high n inside) xs i 0 there ∙ onward_byte ok low high n inside (get_or xs i 0) (drop (i + 1) xs)
 
   pub onward_stops : false ≡ stands → onward ok low high n inside (drop i xs) ≡ false
   onward_stops e = onward_more ∙ ap (λ s. s && rest (cond (eqb (get_or xs i 0) 47) (n + 1) n)) (sym e)
@@ -82,4 +82,4 @@ module _ (ok : ℕ → Bool) (low high n : ℕ) (inside : Bool) (xs : List ℕ) 
 -- a path does not begin with a slash
 pub no_path : (ok : ℕ → Bool) (low high : ℕ) (t : List ℕ) → path ok low high (47 ∷ t) ≡ false
 unfolding path pieces segment
-no_path ok low high t = and_false _
+no_path ok low high t = and-false _

@@ -29,11 +29,11 @@ pieces_cut sep [] t h = rw (eq-eqb sep sep refl)
 pieces_cut sep (b ∷ s) t h = rw (ne_eqb b sep h.0, pieces_cut sep s t h.1)
 
 -- pieces without a separator are those of the text that they make
-pub pieces-rejoined :
+pub pieces_rejoined :
     (sep : ℕ) (p : List ℕ) (ps : List (List ℕ)) → All (λ b. b ≢ sep) p → All (All (λ b. b ≢ sep)) ps
     → pieces sep (join_with_byte sep (p ∷ ps)) ≡ p ∷ ps
-pieces-rejoined sep p [] h hs = pieces_whole sep p h
-pieces-rejoined sep p (q ∷ ps) h hs = pieces_cut sep p (join_with_byte sep (q ∷ ps)) h ∙ ap (λ l. p ∷ l) (pieces-rejoined sep q ps hs.0 hs.1)
+pieces_rejoined sep p [] h hs = pieces_whole sep p h
+pieces_rejoined sep p (q ∷ ps) h hs = pieces_cut sep p (join_with_byte sep (q ∷ ps)) h ∙ ap (λ l. p ∷ l) (pieces_rejoined sep q ps hs.0 hs.1)
 
 rejoined_in_front : (sep b : ℕ) (p : List ℕ) (ps : List (List ℕ)) → join_with_byte sep ((b ∷ p) ∷ ps) ≡ b ∷ join_with_byte sep (p ∷ ps)
 rejoined_in_front sep b p [] = refl

@@ -72,10 +72,10 @@ further_more f g h (c ∷ t) e =
 
 -- a pattern that matches a pattern matches what that matches
 module _ (p : List ℕ) (on : (q t : List ℕ) → matches p q ≡ true → matches q t ≡ true → matches p t ≡ true) where
-  star-further :
+  star_further :
       (q : List ℕ) → ((u : List ℕ) → matches q u ≡ true → matches (42 ∷ p) u ≡ true)
       → (c : ℕ) → c ≢ 47 → (t : List ℕ) → matches (c ∷ q) t ≡ true → matches (42 ∷ p) t ≡ true
-  star-further q ih c ns t =
+  star_further q ih c ns t =
       at_star_or_byte (λ c. c ≢ 47 → matches (c ∷ q) t ≡ true → matches (42 ∷ p) t ≡ true) c
       (λ _ m.
       ⊎_elim (ih t)
@@ -96,7 +96,7 @@ module _ (p : List ℕ) (on : (q t : List ℕ) → matches p q ≡ true → matc
       ⊎_elim (λ l. matches_star p t ∙ or_left _ _ (on (c ∷ q) t l m))
       (λ r.
       let w = both_true (not (eqb c 47)) _ r in
-      star-further q (λ u. star_through q u (matches_star p q ∙ w.1)) c (not_slash c w.0) t m)
+      star_further q (λ u. star_through q u (matches_star p q ∙ w.1)) c (not_slash c w.0) t m)
       (or_true (matches p (c ∷ q)) _ (sym (matches_star p (c ∷ q)) ∙ e))
 
 pub matches_through : (p q t : List ℕ) → matches p q ≡ true → matches q t ≡ true → matches p t ≡ true

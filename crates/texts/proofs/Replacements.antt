@@ -12,16 +12,16 @@ abbrev NoSlash : List ℕ → Type 0
 NoSlash = All (λ b. b ≢ 47)
 
 -- what a star takes, and what is left
-further-parts :
+further_parts :
     (f : List ℕ → Bool) (t : List ℕ) → further f t ≡ true
     → (w : List ℕ) × (u : List ℕ) × NoSlash w × (t ≡ w ++ u) × (f u ≡ true)
 unfolding further
-further-parts f [] e = absurd (clash e)
-further-parts f (c ∷ t) e =
+further_parts f [] e = absurd (clash e)
+further_parts f (c ∷ t) e =
     let h = both_true (not (eqb c 47)) _ e in
     let ns = not_slash c h.0 in
     ⊎_elim (λ l. (c ∷ [], t, (ns, tt), refl, l))
-    (λ r. let z = further-parts f t r in (c ∷ z.0, z.1, (ns, z.2), ap (λ x. c ∷ x) z.3, z.4))
+    (λ r. let z = further_parts f t r in (c ∷ z.0, z.1, (ns, z.2), ap (λ x. c ∷ x) z.3, z.4))
     (or_true (f t) _ h.1)
 
 star_takes : (f : List ℕ → Bool) (w u : List ℕ) → NoSlash w → f u ≡ true → (f (w ++ u) || further f (w ++ u)) ≡ true
@@ -53,7 +53,7 @@ forth (b ∷ p) t e =
     (λ m.
     ⊎_elim (λ l. let z = forth p t l in ([] ∷ z.0, (tt, z.1), z.2))
     (λ r.
-    let w = further-parts (matches p) t r in
+    let w = further_parts (matches p) t r in
     let z = forth p w.1 w.4 in
     (w.0 ∷ z.0, (w.2, z.1), ap (λ x. w.0 ++ x) z.2 ∙ sym w.3))
     (or_true (matches p t) _ m))

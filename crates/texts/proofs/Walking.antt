@@ -46,10 +46,10 @@ module _ (p t : List ℕ) (i j : ℕ) where
       let same : further (matches (drop s.after p)) (drop s.at t) ≡ further (matches (bs ++ (42 ∷ drop (i + 1) p))) (bs ++ drop j t) = (λ k. further (matches (front k)) (et k)) in
       ap (λ x. matches x (drop j t)) e ∙ star_takes_over bs (drop (i + 1) p) (drop j t) lit (sym same ∙ l)
 
-  pub at-star :
+  pub at_star :
       (s : Option Star) → Passed p t i j s → drop i p ≡ 42 ∷ drop (i + 1) p
       → Stepped p t (record { pattern = i; text = j; star = s }) (On (record { pattern = i + 1; text = j; star = Some (record { after = i + 1; at = j }) }))
-  at-star s h e = (
+  at_star s h e = (
     ([], tt, refl, refl),
     sym (absorbed _ _ (taken_over s h e) ∙ ap (λ x. matches x (drop j t)) e ∙ matches_star (drop (i + 1) p) (drop j t)),
     fewer s h (drop (i + 1) p) (drop j t) (ap length e) (omega arith),
@@ -72,10 +72,10 @@ module _ (p t : List ℕ) (i j : ℕ) where
     shorter : length (drop (j + 1) t) ≤ length (drop j t)
     shorter = omega (arith, ap length et)
 
-    at-slash :
+    at_slash :
         (s : Option Star) → Passed p t i j s → b ≡ 47
         → Stepped p t (record { pattern = i; text = j; star = s }) (On (record { pattern = i + 1; text = j + 1; star = None }))
-    at-slash s h e =
+    at_slash s h e =
         (tt, (λ k. sym passed_byte k || sym (longer_stops s h e) k), fewer s h (drop (i + 1) p) (drop (j + 1) t) (ap length ep) shorter)
 
     at_byte :
@@ -88,20 +88,20 @@ module _ (p t : List ℕ) (i j : ℕ) where
       omega (arith, ap length ep),
     )
 
-    pub at-either :
+    pub at_either :
         (s : Option Star) → Passed p t i j s
         → Stepped p t (record { pattern = i; text = j; star = s }) (On (record { pattern = i + 1; text = j + 1; star = cond (eqb b 47) None s }))
-    at-either s h =
+    at_either s h =
         let P : Bool → Type 0 = λ x. Stepped p t (record { pattern = i; text = j; star = s }) (On (record { pattern = i + 1; text = j + 1; star = cond x None s })) in
-        ⊎_elim (λ e. subst P (sym (eq-eqb b 47 e)) (at-slash s h e)) (λ n. subst P (sym (ne_eqb b 47 n)) (at_byte s h n)) (cases_eq b 47)
+        ⊎_elim (λ e. subst P (sym (eq-eqb b 47 e)) (at_slash s h e)) (λ n. subst P (sym (ne_eqb b 47 n)) (at_byte s h n)) (cases_eq b 47)
 
   module _ (b : ℕ) (ep : drop i p ≡ b ∷ drop (i + 1) p) where
     pub fails_behind : drop j t ≡ [] → b ≢ 42 → matches (drop i p) (drop j t) ≡ false
     fails_behind et plain = (λ k. matches (ep k) (et k)) ∙ matches_byte b (drop (i + 1) p) [] plain
 
-  pub fails-at :
+  pub fails_at :
       (b c : ℕ) → drop i p ≡ b ∷ drop (i + 1) p → drop j t ≡ c ∷ drop (j + 1) t → b ≢ 42 → b ≢ c → matches (drop i p) (drop j t) ≡ false
-  fails-at b c ep et plain other =
+  fails_at b c ep et plain other =
       (λ k. matches (ep k) (et k)) ∙ matches_byte b (drop (i + 1) p) (c ∷ drop (j + 1) t) plain ∙ next_other b c (matches (drop (i + 1) p)) (drop (j + 1) t) other
 
   pub ends_together : (s : Option Star) → drop i p ≡ [] → length t ≤ j → Stepped p t (record { pattern = i; text = j; star = s }) (Answer true)

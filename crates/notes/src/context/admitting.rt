@@ -2,7 +2,7 @@
 ghost use Rattle.std.specs.Prelude.{◌≡◌};
 ghost use Rattle.notes.specs.Constraints.{offered};
 ghost use Rattle.notes.specs.Contexts.{context_of, context_admits, context_covers};
-ghost use Rattle.notes.specs.Sound.{context-sound};
+ghost use Rattle.notes.specs.Sound.{context_sound};
 
 use super::super::constraint::{Constraint, list_admits, list_covers};
 use super::{Circumstances, Context};
@@ -14,7 +14,7 @@ impl Constraint for Context {
 
     ghost covered = { λ c d. context_covers (context_of c) (context_of d) };
 
-    ghost sound = { λ a b v. context-sound (context_of a) (context_of b) v.instant.civil (offered v.has_address v.address) (offered v.has_country v.country) };
+    ghost sound = { λ a b v. context_sound (context_of a) (context_of b) v.instant.civil (offered v.has_address v.address) (offered v.has_country v.country) };
 
     fn admits(&self, v: &Circumstances) -> bool {
         list_admits(self.windows.as_slice(), true, &v.instant)

@@ -8,7 +8,7 @@ pub returns-in-Some : goal.returns-in-Some
 returns-in-Some c =
     let domain = c.args.domain.now in
     let rest = c.in-Some.rest.now in
-    c.is-some.ensures ∙ behind_there (47 ∷ []) rest c.behind.result c.behind.ensures
+    c.is_some.ensures ∙ behind_there (47 ∷ []) rest c.behind.result c.behind.ensures
     ∙ sym (ap (in_domain domain) c.in-Some.ensures ∙ begins_append (47 ∷ 47 ∷ domain) (47 ∷ []) rest)
 
 pub returns-in-None : goal.returns-in-None

@@ -9,8 +9,8 @@ use Rattle.texts.proofs.segments.is_path.Goals.{then-not-inside, else-not-inside
 pub loop-b-init : goal.loop-b-init
 loop-b-init c = (omega arith, onward_start _ _ _ _)
 
-pub returns-then-not-may-stand : goal.returns-then-not-may-stand
-returns-then-not-may-stand c = sym (sym c.loop-b.invariant.1 ∙ onward_stops _ _ _ _ _ _ _ c.loop-b-test.true c.if-not-may-stand.ensures)
+pub returns-then-not-may_stand : goal.returns-then-not-may_stand
+returns-then-not-may_stand c = sym (sym c.loop-b.invariant.1 ∙ onward_stops _ _ _ _ _ _ _ c.loop-b-test.true c.if-not-may-stand.ensures)
 
 pub loop-b-preserved : goal.loop-b-preserved
 loop-b-preserved c =
@@ -31,5 +31,5 @@ loop-b-preserved c =
 pub returns : goal.returns
 returns c =
     let rest = onward (allowed c.args.alphabet) c.args.least c.args.most c.loop-b.slashes c.loop-b.inside in
-    ap (λ t. c.loop-b.inside && t) c.has-segments.ensures ∙ sym (onward_end _ _ _ _ _)
+    ap (λ t. c.loop-b.inside && t) c.has_segments.ensures ∙ sym (onward_end _ _ _ _ _)
     ∙ sym (at_drop_all rest c.args.text.now c.loop-b.b-index c.loop-b-test.false) ∙ c.loop-b.invariant.1

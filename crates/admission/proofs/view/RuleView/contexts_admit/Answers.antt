@@ -3,7 +3,7 @@ use Rattle.calendar.specs.Civil.{civil_of}
 use Rattle.notes.specs.Constraints.{offered, list_admits}
 use Rattle.notes.specs.Contexts.{context_of, context_admits}
 use Rattle.notes.specs.Few.{listed}
-use Rattle.notes.specs.ConstraintsLemmas.{list-admits-map}
+use Rattle.notes.specs.ConstraintsLemmas.{list_admits_map}
 use Rattle.admission.specs.Admitting.{in_context}
 use Rattle.admission.specs.Requests.{request_of}
 use Rattle.admission.proofs.view.RuleView.contexts_admit.Goals as goal
@@ -18,4 +18,4 @@ returns c =
     let xs = listed c.args.self.now.parts.now.contexts in
     c.list_admits.ensures ∙ ap (λ l. list_admits (λ x v. context_admits (context_of x) v.instant.civil (offered v.has_address v.address) (offered v.has_country v.country)) l (Some v)) c.contexts.ensures
     ∙ ap (λ time. list_admits (λ x (_ : Unit {0}). context_admits (context_of x) time address country) xs (Some tt)) v.instant.reads
-    ∙ sym (list-admits-map in_context context_of xs (Some (request_of q)))
+    ∙ sym (list_admits_map in_context context_of xs (Some (request_of q)))

@@ -2,7 +2,7 @@ use Rattle.std.proofs.Common.{◌&&◌, eqb, sym, ◌∙◌}
 use Rattle.notes.specs.Constraints.{list_covers}
 use Rattle.notes.specs.Contexts.{context_of, context_covers}
 use Rattle.notes.specs.Few.{listed}
-use Rattle.notes.specs.ConstraintsLemmas.{list-covers-map}
+use Rattle.notes.specs.ConstraintsLemmas.{list_covers_map}
 use Rattle.admission.proofs.view.RuleView.lists_cover.Goals as goal
 
 pub returns : goal.returns
@@ -10,5 +10,5 @@ returns c =
     let types = c.list_covers.ensures ∙ (λ i. list_covers eqb (c.child-types.ensures i) (c.child-types-2.ensures i)) in
     let contexts =
     c.list-covers-2.ensures ∙ (λ i. list_covers (λ x y. context_covers (context_of x) (context_of y)) (c.contexts.ensures i) (c.contexts-2.ensures i))
-    ∙ sym (list-covers-map context_covers context_of (listed c.args.self.now.parts.now.contexts) (listed c.args.other.now.parts.now.contexts)) in
+    ∙ sym (list_covers_map context_covers context_of (listed c.args.self.now.parts.now.contexts) (listed c.args.other.now.parts.now.contexts)) in
     λ i. types i && contexts i

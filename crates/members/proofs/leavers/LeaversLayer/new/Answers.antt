@@ -1,5 +1,5 @@
 use Rattle.std.proofs.Common.{not, ◌&&◌, sym, refl, ap, ◌∙◌, subst}
-use mathlib.Core.Bool.{and_true}
+use mathlib.Core.Bool.{and-true}
 use Rattle.members.specs.Leavers.{OnceEach, noted}
 use Rattle.members.proofs.Noting.{none_noted, once_none}
 use Rattle.members.proofs.leavers.LeaversLayer.new.Goals as goal
@@ -13,5 +13,5 @@ returns g c =
     record {
       below = refl;
       noted = c.new.ensures;
-      meaning = λ i s. ap (λ b. below i s && not b) (ap (λ l. noted l i) c.new.ensures ∙ none_noted i) ∙ and_true (below i s);
+      meaning = λ i s. ap (λ b. below i s && not b) (ap (λ l. noted l i) c.new.ensures ∙ none_noted i) ∙ and-true (below i s);
     }

@@ -5,7 +5,7 @@ use Rattle.texts.specs.TextValues.{identity_text, standing_text}
 use Rattle.members.specs.PresentedRows.{presented_rows}
 use Rattle.members.specs.Rows.{row_of, listed}
 use Rattle.members.specs.Tokens.{with_presented}
-use Rattle.members.proofs.Presenting.{gains_nothing, gains-one}
+use Rattle.members.proofs.Presenting.{gains_nothing, gains_one}
 use Rattle.members.proofs.RowLaws.{identity_short, standing_short}
 use Rattle.members.proofs.tokens.TokenLayer.present.Goals as goal
 
@@ -38,5 +38,5 @@ returns g c =
       held = rw (new, sym c.if-is-full.ensures) (refl, later);
       meaning =
           λ j t. ap (λ l. with_presented l below j t) later
-          ∙ gains-one held below i s (identity_short c.args.identity.now) (standing_short c.args.standing.now) j t;
+          ∙ gains_one held below i s (identity_short c.args.identity.now) (standing_short c.args.standing.now) j t;
     }

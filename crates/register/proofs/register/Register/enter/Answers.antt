@@ -1,7 +1,7 @@
 use Rattle.std.proofs.Common.{◌≡◌, length, Ok, vec_items, sym, ap, ◌∙◌, arith, length-take}
 use Rattle.notes.specs.Rules.{rule_lawful}
 use Rattle.register.specs.Tables.{tables, Holding}
-use Rattle.register.proofs.Calls.{add_taken, add_full, add-placed}
+use Rattle.register.proofs.Calls.{add_taken, add_full, add_placed}
 use Rattle.register.proofs.register.Register.enter.Goals as goal
 
 pub returns-in-Some : goal.returns-in-Some
@@ -33,4 +33,4 @@ returns-in-Some-find-free c =
       rule_is = read.1 ∙ ap Ok (sym row.value);
       lawful = ap rule_lawful row.value ∙ rule.lawful;
     } in
-    add-placed (tables c.args.self.now) c.args.policy c.args.number c.in-ok-check-name.ensures c.args.note.now _ read.1 none c.in-Some-find-free.i c.holding.result free.0 free.1 holds
+    add_placed (tables c.args.self.now) c.args.policy c.args.number c.in-ok-check-name.ensures c.args.note.now _ read.1 none c.in-Some-find-free.i c.holding.result free.0 free.1 holds

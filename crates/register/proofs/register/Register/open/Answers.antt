@@ -3,7 +3,7 @@ use Rattle.texts.specs.TextValues.{domain_text}
 use Rattle.register.specs.Entries.{freed}
 use Rattle.register.specs.Tables.{tables, Cleared, Opened}
 use Rattle.register.specs.Targets.{unlinked}
-use Rattle.register.proofs.Opening.{cleared-opened}
+use Rattle.register.proofs.Opening.{cleared_opened}
 use Rattle.register.proofs.Parts.{take_min, drop_min}
 use Rattle.register.proofs.register.Register.open.Goals as goal
 
@@ -23,5 +23,5 @@ returns c =
       opened =
           subst (λ k. Opened (record { home = domain_text c.args.home; rows = k; targets = vec_len targets }) r) (sym rows.ok.0)
           (subst (λ k. Opened (record { home = domain_text c.args.home; rows = length (vec_items rows); targets = k }) r) (sym targets.ok.0)
-          (cleared-opened (domain_text c.args.home) (vec_items rows) (vec_items targets) r refl cleared));
+          (cleared_opened (domain_text c.args.home) (vec_items rows) (vec_items targets) r refl cleared));
     }
