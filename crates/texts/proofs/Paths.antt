@@ -1,6 +1,6 @@
 -- A path, read byte by byte. Assumes nothing.
 use Rattle.std.proofs.Common.{◌≡◌, ℕ, suc, ◌+◌, ◌<◌, Bool, true, false, cond, not, ◌&&◌, ◌||◌, eqb, leb, List, [], ◌∷◌, length, get_or, drop, sym, refl, ap, ◌∙◌, zero-add, arith}
-use mathlib.Core.Bool.{and-true, and-false, and-assoc}
+use mathlib.Core.Bool.{and-true, and-false, and_assoc}
 use Rattle.std.proofs.lemmas.List.{at_drop_more}
 use Rattle.texts.specs.Lists.{each, none}
 use Rattle.texts.specs.Pieces.{pieces, in_front}
@@ -24,9 +24,9 @@ module _ (ok : ℕ → Bool) where
 
   opened_byte : (inside : Bool) (b : ℕ) (ps : List (List ℕ)) → opened inside (in_front b ps) ≡ (ok b && opened true ps)
   opened_byte true b [] = and-true (ok b && true)
-  opened_byte true b (p ∷ ps) = and-assoc (ok b) (each ok p) (each (segment ok) ps)
+  opened_byte true b (p ∷ ps) = and_assoc (ok b) (each ok p) (each (segment ok) ps)
   opened_byte false b [] = and-true (ok b && true)
-  opened_byte false b (p ∷ ps) = and-assoc (ok b) (each ok p) (each (segment ok) ps)
+  opened_byte false b (p ∷ ps) = and_assoc (ok b) (each ok p) (each (segment ok) ps)
 
 abbrev within : ℕ → ℕ → ℕ → Bool
 within low high n = leb low n && leb n high

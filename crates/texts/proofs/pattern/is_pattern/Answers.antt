@@ -5,5 +5,5 @@ use Rattle.texts.proofs.pattern.is_pattern.Goals as goal
 
 pub returns-in-Some-behind_slash : goal.returns-in-Some-behind_slash
 returns-in-Some-behind_slash c =
-    let none = no_path starred 1 2 c.in-Some-behind-slash.path.now in
+    let none = no_path starred 1 2 c.in-Some-behind_slash.path.now in
     search rules

@@ -10,7 +10,7 @@ pub loop-b-init : goal.loop-b-init
 loop-b-init c = (omega arith, onward_start _ _ _ _)
 
 pub returns-then-not-may_stand : goal.returns-then-not-may_stand
-returns-then-not-may_stand c = sym (sym c.loop-b.invariant.1 ∙ onward_stops _ _ _ _ _ _ _ c.loop-b-test.true c.if-not-may-stand.ensures)
+returns-then-not-may_stand c = sym (sym c.loop-b.invariant.1 ∙ onward_stops _ _ _ _ _ _ _ c.loop-b-test.true c.if-not-may_stand.ensures)
 
 pub loop-b-preserved : goal.loop-b-preserved
 loop-b-preserved c =
@@ -26,7 +26,7 @@ loop-b-preserved c =
       | then-not-inside w ↦ omega (arith, w.slashes-is)
       | else-not-inside w ↦ omega (arith, w.slashes-is)
     ] in
-    (few, onward_goes _ _ _ _ _ _ _ c.loop-b-test.true _ c.if-not-may-stand.ensures counted ∙ c.loop-b.invariant.1)
+    (few, onward_goes _ _ _ _ _ _ _ c.loop-b-test.true _ c.if-not-may_stand.ensures counted ∙ c.loop-b.invariant.1)
 
 pub returns : goal.returns
 returns c =
