@@ -3,7 +3,7 @@ use Rattle.std.specs.Prelude.{◌≡◌, ℕ, zero, suc, ◌+◌, ◌*◌, ◌^�
 use Rattle.std.proofs.Common.{sym, ap, ◌∙◌, arith, length-append, length-take-le, ⊎_elim, eqb-true, leb-true, lt-ltb, ltb-true}
 use Rattle.std.specs.Int.Digits.{number_from_digits}
 use Rattle.std.proofs.lemmas.List.{take_all}
-use Rattle.std.proofs.str.Laws.{order}
+use Rattle.std.proofs.lemmas.Bool.{cases_lt}
 use Rattle.bits.specs.Digits.{digits}
 use Rattle.bits.specs.Faults.{ended}
 use Rattle.bits.specs.Codec.{field, text, bytes_of, Bytes, Lawful}
@@ -101,7 +101,7 @@ take_taken n xs =
     ⊎_elim
     (λ (few : n < length xs). let l : length (take n xs) ≡ n = length-take-le n xs (omega arith) in ap (λ k. take k xs) (sym l))
     (λ (all : length xs ≤ n). let e = take_all n xs all in e ∙ sym (ap (λ l. take (length l) xs) e ∙ take_all (length xs) xs (omega arith)))
-    (order n (length xs))
+    (cases_lt n (length xs))
 
 -- a text stands at a place of the note
 pub text_place : (note : List ℕ) (e : Entry) → (place : ℕ) × (entry_text note e ≡ take (length (entry_text note e)) (drop place note))

@@ -24,7 +24,7 @@ pub trait Constraint: Packed {
 }
 
 fn one_admits<C: Constraint>(items: &[C], v: &C::Value) -> bool
-    ensures { result ≡ some (λ x. admitted x v.now) items.now }
+    ensures { result ≡ some (λ x. C.admitted x v.now) items.now }
 {
     for x in items {
         if x.admits(v) {
@@ -36,13 +36,13 @@ fn one_admits<C: Constraint>(items: &[C], v: &C::Value) -> bool
 
 // Whether a list admits a value that a request may lack: `there` says whether it has one.
 pub fn list_admits<C: Constraint>(items: &[C], there: bool, v: &C::Value) -> bool
-    ensures { result ≡ list_admits admitted items.now (offered there v.now) }
+    ensures { result ≡ list_admits C.admitted items.now (offered there v.now) }
 {
     items.is_empty() | (there & one_admits(items, v))
 }
 
 fn one_covers<C: Constraint>(items: &[C], other: &C) -> bool
-    ensures { result ≡ some (λ x. covered x other.now) items.now }
+    ensures { result ≡ some (λ x. C.covered x other.now) items.now }
 {
     for x in items {
         if x.covers(other) {
@@ -53,7 +53,7 @@ fn one_covers<C: Constraint>(items: &[C], other: &C) -> bool
 }
 
 fn each_covered<C: Constraint>(items: &[C], others: &[C]) -> bool
-    ensures { result ≡ each (λ y. some (λ x. covered x y) items.now) others.now }
+    ensures { result ≡ each (λ y. some (λ x. C.covered x y) items.now) others.now }
 {
     for y in others {
         if !one_covers(items, y) {
@@ -65,17 +65,17 @@ fn each_covered<C: Constraint>(items: &[C], others: &[C]) -> bool
 
 // Whether a list covers another.
 pub fn list_covers<C: Constraint>(items: &[C], others: &[C]) -> bool
-    ensures { result ≡ list_covers covered items.now others.now }
+    ensures { result ≡ list_covers C.covered items.now others.now }
 {
     items.is_empty() | (!others.is_empty() & each_covered(items, others))
 }
 
 // What covers another admits what that admits, of every kind of constraint.
 pub fn constraints_sound<C: Constraint>()
-    ensures { (a b : C) (v : C.Value) → covered a b ≡ true → admitted b v ≡ true → admitted a v ≡ true }
+    ensures { (a b : C) (v : C.Value) → C.covered a b ≡ true → C.admitted b v ≡ true → C.admitted a v ≡ true }
 {}
 
 // What covers a list admits what that admits: one argument for every kind of constraint.
 pub fn lists_sound<C: Constraint>()
-    ensures { (xs ys : List C) (v : Option C.Value) → list_covers covered xs ys ≡ true → list_admits admitted ys v ≡ true → list_admits admitted xs v ≡ true }
+    ensures { (xs ys : List C) (v : Option C.Value) → list_covers C.covered xs ys ≡ true → list_admits C.admitted ys v ≡ true → list_admits C.admitted xs v ≡ true }
 {}

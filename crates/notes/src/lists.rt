@@ -19,7 +19,7 @@ pub(super) fn read_list<P: Packed, const N: usize>(
 ) -> Result<Few<P, N>, NoteFault>
     requires { n ≤ N }
     ensures kept { bytes r.new ≡ bytes r.old }
-    ensures cases { ToldAs (λ l. map meant (listed l)) (times n reads) (source r.old) (place r.old) result (place r.new) }
+    ensures cases { ToldAs (λ l. map P.meant (listed l)) (times n P.reads) (source r.old) (place r.old) result (place r.new) }
 {
     let mut items: Few<P, N> = Few::new();
     for _i in 0..n {

@@ -97,7 +97,7 @@ impl EntryKind {
         requires { place r.old % 8 ≡ 0 }
         ensures kept { bytes r.new ≡ bytes r.old }
         ensures part { IfOk result (λ t. Part (bytes r.old) (place r.old) len t.now) }
-        ensures* cases { λ x. ⌜ ToldAs (λ x. x.now) (text_reads self len) (source r.old) (place r.old) x (place r.new) ⌝ }
+        ensures cases { ToldAs (λ t. t.now) (text_reads self len) (source r.old) (place r.old) result (place r.new) }
     {
         let place = r.place();
         let text = r.part(len)?;

@@ -6,6 +6,6 @@ use Rattle.notes.proofs.constraint.list_covers.Goals as goal
 pub returns : goal.returns
 unfolding list_covers
 returns g c =
-    let empty = c.is-empty.ensures ∙ none_is c.args.items.now in
-    let others = c.is-empty-2.ensures ∙ none_is c.args.others.now in
-    λ i. empty i || (not (others i) && c.each-covered.ensures i)
+    let empty = c.is_empty.ensures ∙ none_is c.args.items.now in
+    let others = c.is_empty-2.ensures ∙ none_is c.args.others.now in
+    λ i. empty i || (not (others i) && c.each_covered.ensures i)

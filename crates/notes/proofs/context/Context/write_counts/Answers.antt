@@ -6,7 +6,7 @@ use Rattle.notes.proofs.Writings.{wrote_then}
 use Rattle.notes.proofs.context.Context.write_counts.Goals as goal
 
 pub put-requires-2 : goal.put-requires-2
-put-requires-2 c = omega (arith, c.put.ensures.moved, c.put.ensures.size, length_digits 3 (length c.as-slice.result.now))
+put-requires-2 c = omega (arith, c.put.ensures.moved, c.put.ensures.size, length_digits 3 (length c.as_slice.result.now))
 
 pub put-requires-3 : goal.put-requires-3
 put-requires-3 c =
@@ -14,14 +14,14 @@ put-requires-3 c =
       arith,
       c.put.ensures.moved,
       c.put.ensures.size,
-      length_digits 3 (length c.as-slice.result.now),
+      length_digits 3 (length c.as_slice.result.now),
       c.put-2.ensures.moved,
       c.put-2.ensures.size,
-      length_digits 3 (length c.as-slice-2.result.now),
+      length_digits 3 (length c.as_slice-2.result.now),
     )
 
 pub returns : goal.returns
 returns c =
     subst (Wrote c.args.w.now c.put-3.new.w)
-    (λ i. digits 3 (length (c.as-slice.ensures i)) ++ (digits 3 (length (c.as-slice-2.ensures i)) ++ digits 2 (length (c.as-slice-3.ensures i))))
+    (λ i. digits 3 (length (c.as_slice.ensures i)) ++ (digits 3 (length (c.as_slice-2.ensures i)) ++ digits 2 (length (c.as_slice-3.ensures i))))
     (wrote_then (omega arith) c.put.ensures (wrote_then c.put.ensures.room c.put-2.ensures c.put-3.ensures))

@@ -13,22 +13,22 @@ use Rattle.notes.proofs.context.ContextPacked.read.Goals as goal
 
 pub returns : goal.returns
 returns c =
-    let n = c.in-ok-counts.counts in
-    let ws = listed c.in-ok-windows.windows in
-    let bs = listed c.in-ok-blocks.blocks in
-    let cs = listed c.in-ok-countries.countries in
-    let one = c.in-ok-counts.ensures in
-    let two = c.in-ok-windows.ensures in
-    let three = c.in-ok-blocks.ensures in
-    let four = c.in-ok-countries.ensures in
+    let n = c.in_ok-counts.counts in
+    let ws = listed c.in_ok-windows.windows in
+    let bs = listed c.in_ok-blocks.blocks in
+    let cs = listed c.in_ok-countries.countries in
+    let one = c.in_ok-counts.ensures in
+    let two = c.in_ok-windows.ensures in
+    let three = c.in_ok-blocks.ensures in
+    let four = c.in_ok-countries.ensures in
     let at0 = place c.args.r.now in
     let at1 = place c.read.new.r in
-    let at2 = place c.read-list.new.r in
-    let at3 = place c.read-list-2.new.r in
-    let at4 = place c.read-list-3.new.r in
+    let at2 = place c.read_list.new.r in
+    let at3 = place c.read_list-2.new.r in
+    let at4 = place c.read_list-3.new.r in
     let second : times n.windows window_reads (source c.read.new.r) at1 ≡ Ok (ws, at2) = two.cases ∙ (λ i. Ok (map-id ws i, at2)) in
-    let third : times n.blocks block_reads (source c.read-list.new.r) at2 ≡ Ok (bs, at3) = three.cases ∙ (λ i. Ok (map-id bs i, at3)) in
-    let fourth : times n.countries country_reads (source c.read-list-2.new.r) at3 ≡ Ok (cs, at4) = four.cases ∙ (λ i. Ok (map-id cs i, at4)) in
+    let third : times n.blocks block_reads (source c.read_list.new.r) at2 ≡ Ok (bs, at3) = three.cases ∙ (λ i. Ok (map-id bs i, at3)) in
+    let fourth : times n.countries country_reads (source c.read_list-2.new.r) at3 ≡ Ok (cs, at4) = four.cases ∙ (λ i. Ok (map-id cs i, at4)) in
     let tail = seq_ok (times n.blocks block_reads) (λ _. times n.countries country_reads) _ _ at2 at3 at4 bs cs third (ap bits three.kept) fourth in
     let items = seq_ok (times n.windows window_reads) (λ _. seq (times n.blocks block_reads) (λ _. times n.countries country_reads)) _ _ at1 at2 at4 ws (bs, cs) second (ap bits two.kept) tail in
     let all =

@@ -9,16 +9,16 @@ use Rattle.notes.proofs.originator.Originator.read.Goals as goal
 
 pub returns : goal.returns
 returns c =
-    let k = c.in-ok-kind.kind in
-    let n = c.in-ok-len.len in
-    let t = c.in-ok-read-text.field-0.now in
-    let one = c.in-ok-kind.ensures in
-    let two = c.in-ok-len.ensures in
-    let three = c.in-ok-read-text.ensures in
+    let k = c.in_ok-kind.kind in
+    let n = c.in_ok-len.len in
+    let t = c.in_ok-read_text.field-0.now in
+    let one = c.in_ok-kind.ensures in
+    let two = c.in_ok-len.ensures in
+    let three = c.in_ok-read_text.ensures in
     let at0 = place c.args.r.now in
     let at1 = place c.read.new.r in
-    let at2 = place c.read-length.new.r in
-    let at3 = place c.read-text.new.r in
+    let at2 = place c.read_length.new.r in
+    let at3 = place c.read_text.new.r in
     let tail = seq_ok (length_reads k) (text_reads k) _ _ at1 at2 at3 n t two.cases (ap bits two.kept) three.cases in
     let all = seq_ok kind_reads (λ j. seq (length_reads j) (text_reads j)) _ _ at0 at1 at3 k (n, t) one.cases (ap bits one.kept) tail in
     let note = bytes c.args.r.now in

@@ -13,8 +13,8 @@ put-requires c = omega (arith, originator_long (originator_of c.args.note.now c.
 pub put-requires-2 : goal.put-requires-2
 put-requires-2 c = omega (arith, originator_long (originator_of c.args.note.now c.args.self.now), c.put.ensures.moved, c.put.ensures.size, length_digits 2 c.code.result)
 
-pub put-bytes-requires : goal.put-bytes-requires
-put-bytes-requires c =
+pub put_bytes-requires : goal.put_bytes-requires
+put_bytes-requires c =
     omega (
       arith,
       originator_long (originator_of c.args.note.now c.args.self.now),
@@ -29,6 +29,6 @@ put-bytes-requires c =
 
 pub returns : goal.returns
 returns c =
-    subst (Wrote c.args.w.now c.put-bytes.new.w)
+    subst (Wrote c.args.w.now c.put_bytes.new.w)
     (λ i. digits 2 ((c.code.ensures ∙ ap code c.kind.ensures) i) ++ (digits 6 (length (c.text-text.ensures i)) ++ bits (c.text-text.ensures i)))
-    (wrote_then (omega (arith, originator_long (originator_of c.args.note.now c.args.self.now))) c.put.ensures (wrote_then c.put.ensures.room c.put-2.ensures c.put-bytes.ensures))
+    (wrote_then (omega (arith, originator_long (originator_of c.args.note.now c.args.self.now))) c.put.ensures (wrote_then c.put.ensures.room c.put-2.ensures c.put_bytes.ensures))

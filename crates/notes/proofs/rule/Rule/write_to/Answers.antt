@@ -26,5 +26,5 @@ returns c =
     let two : Wrote c.write.new.w last (digits (pad (length (rule_form r))) 0) = subst (λ k. Wrote c.write.new.w last (digits k 0)) pad-is c.put.ensures in
     let both = wrote_then (omega (arith, c.new-w.ensures.start)) one two in
     let lent = both.lent in
-    filled_by r (rule_note self) self.lawful self.same c.args.out.now _ first last _ c.new-w.ensures.bytes c.new-w.ensures.start (grind arith) c.requires (λ i. (c.type-inv.out i).fits)
+    filled_by r (rule_note self) self.lawful self.same c.args.out.now _ first last _ c.new-w.ensures.bytes c.new-w.ensures.start (grind arith) c.requires (λ i. (c.type_inv.out i).fits)
     (ap (λ k. (k + 7) / 8) at) both

@@ -13,23 +13,23 @@ use Rattle.notes.proofs.rule.RuleParts.read.Goals as goal
 
 pub returns : goal.returns
 returns c =
-    let h = c.in-ok-head.head in
+    let h = c.in_ok-head.head in
     let note = bytes c.args.r.now in
-    let os = map (originator_of note) (listed c.in-ok-originators.originators) in
-    let ts = listed c.in-ok-child-types.child-types in
-    let cs = map context_of (listed c.in-ok-contexts.contexts) in
-    let one = c.in-ok-head.ensures in
-    let two = c.in-ok-originators.ensures in
-    let three = c.in-ok-child-types.ensures in
-    let four = c.in-ok-contexts.ensures in
+    let os = map (originator_of note) (listed c.in_ok-originators.originators) in
+    let ts = listed c.in_ok-child_types.child_types in
+    let cs = map context_of (listed c.in_ok-contexts.contexts) in
+    let one = c.in_ok-head.ensures in
+    let two = c.in_ok-originators.ensures in
+    let three = c.in_ok-child_types.ensures in
+    let four = c.in_ok-contexts.ensures in
     let at0 = place c.args.r.now in
     let at1 = place c.read.new.r in
-    let at2 = place c.read-originators.new.r in
-    let at3 = place c.read-list.new.r in
-    let at4 = place c.read-list-2.new.r in
+    let at2 = place c.read_originators.new.r in
+    let at3 = place c.read_list.new.r in
+    let at4 = place c.read_list-2.new.r in
     let second : times h.originators originator_reads (source c.read.new.r) at1 ≡ Ok (os, at2) =
-    two.cases ∙ (λ i. Ok (map (originator_of (one.kept i)) (listed c.in-ok-originators.originators), at2)) in
-    let third : times h.child_types (field 16) (source c.read-originators.new.r) at2 ≡ Ok (ts, at3) = three.cases ∙ (λ i. Ok (map-id ts i, at3)) in
+    two.cases ∙ (λ i. Ok (map (originator_of (one.kept i)) (listed c.in_ok-originators.originators), at2)) in
+    let third : times h.child_types (field 16) (source c.read_originators.new.r) at2 ≡ Ok (ts, at3) = three.cases ∙ (λ i. Ok (map-id ts i, at3)) in
     let tail = seq_ok (times h.child_types (field 16)) (λ _. times h.contexts context_reads) _ _ at2 at3 at4 ts cs third (ap bits three.kept) four.cases in
     let items = seq_ok (times h.originators originator_reads) (λ _. seq (times h.child_types (field 16)) (λ _. times h.contexts context_reads)) _ _ at1 at2 at4 os (ts, cs) second (ap bits two.kept) tail in
     let all =

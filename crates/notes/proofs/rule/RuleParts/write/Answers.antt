@@ -24,56 +24,56 @@ long note p =
 pub write-requires : goal.write-requires
 write-requires c = omega (arith, long c.args.note.now c.args.self.now)
 
-pub write-originators-requires : goal.write-originators-requires
-write-originators-requires c =
+pub write_originators-requires : goal.write_originators-requires
+write_originators-requires c =
     omega (
       arith,
       long c.args.note.now c.args.self.now,
       head_long c.head.result,
       c.write.ensures.moved,
       c.write.ensures.size,
-      ap (λ l. length (flat_map (λ o. originator_form (originator_of c.args.note.now o)) l)) c.as-slice.ensures,
+      ap (λ l. length (flat_map (λ o. originator_form (originator_of c.args.note.now o)) l)) c.as_slice.ensures,
     )
 
-pub write-list-requires : goal.write-list-requires
-write-list-requires c =
+pub write_list-requires : goal.write_list-requires
+write_list-requires c =
     omega (
       arith,
       long c.args.note.now c.args.self.now,
       head_long c.head.result,
       c.write.ensures.moved,
       c.write.ensures.size,
-      ap (λ l. length (flat_map (λ o. originator_form (originator_of c.args.note.now o)) l)) c.as-slice.ensures,
-      c.write-originators.ensures.moved,
-      c.write-originators.ensures.size,
-      ap (λ l. length (flat_map (digits 16) l)) c.as-slice-2.ensures,
+      ap (λ l. length (flat_map (λ o. originator_form (originator_of c.args.note.now o)) l)) c.as_slice.ensures,
+      c.write_originators.ensures.moved,
+      c.write_originators.ensures.size,
+      ap (λ l. length (flat_map (digits 16) l)) c.as_slice-2.ensures,
     )
 
-pub write-list-requires-2 : goal.write-list-requires-2
-write-list-requires-2 c =
+pub write_list-requires-2 : goal.write_list-requires-2
+write_list-requires-2 c =
     omega (
       arith,
       long c.args.note.now c.args.self.now,
       head_long c.head.result,
       c.write.ensures.moved,
       c.write.ensures.size,
-      ap (λ l. length (flat_map (λ o. originator_form (originator_of c.args.note.now o)) l)) c.as-slice.ensures,
-      c.write-originators.ensures.moved,
-      c.write-originators.ensures.size,
-      ap (λ l. length (flat_map (digits 16) l)) c.as-slice-2.ensures,
-      c.write-list.ensures.moved,
-      c.write-list.ensures.size,
-      ap (λ l. length (flat_map (λ x. context_form (context_of x)) l)) c.as-slice-3.ensures,
+      ap (λ l. length (flat_map (λ o. originator_form (originator_of c.args.note.now o)) l)) c.as_slice.ensures,
+      c.write_originators.ensures.moved,
+      c.write_originators.ensures.size,
+      ap (λ l. length (flat_map (digits 16) l)) c.as_slice-2.ensures,
+      c.write_list.ensures.moved,
+      c.write_list.ensures.size,
+      ap (λ l. length (flat_map (λ x. context_form (context_of x)) l)) c.as_slice-3.ensures,
     )
 
 pub returns : goal.returns
 returns c =
     let note = c.args.note.now in
     let p = c.args.self.now in
-    let os : flat_map (λ o. originator_form (originator_of note o)) c.as-slice.result.now ≡ flat_map originator_form (rule_of note p).originators =
-    ap (flat_map (λ o. originator_form (originator_of note o))) c.as-slice.ensures ∙ sym (joined_map originator_form (originator_of note) (listed p.originators)) in
-    let cs : flat_map (λ x. context_form (context_of x)) c.as-slice-3.result.now ≡ flat_map context_form (rule_of note p).contexts =
-    ap (flat_map (λ x. context_form (context_of x))) c.as-slice-3.ensures ∙ sym (joined_map context_form context_of (listed p.contexts)) in
-    subst (Wrote c.args.w.now c.write-list-2.new.w)
-    (λ i. head_form (c.head.ensures note i) ++ (os i ++ (flat_map (digits 16) (c.as-slice-2.ensures i) ++ cs i)))
-    (wrote_then (omega arith) c.write.ensures (wrote_then c.write.ensures.room c.write-originators.ensures (wrote_then c.write-originators.ensures.room c.write-list.ensures c.write-list-2.ensures)))
+    let os : flat_map (λ o. originator_form (originator_of note o)) c.as_slice.result.now ≡ flat_map originator_form (rule_of note p).originators =
+    ap (flat_map (λ o. originator_form (originator_of note o))) c.as_slice.ensures ∙ sym (joined_map originator_form (originator_of note) (listed p.originators)) in
+    let cs : flat_map (λ x. context_form (context_of x)) c.as_slice-3.result.now ≡ flat_map context_form (rule_of note p).contexts =
+    ap (flat_map (λ x. context_form (context_of x))) c.as_slice-3.ensures ∙ sym (joined_map context_form context_of (listed p.contexts)) in
+    subst (Wrote c.args.w.now c.write_list-2.new.w)
+    (λ i. head_form (c.head.ensures note i) ++ (os i ++ (flat_map (digits 16) (c.as_slice-2.ensures i) ++ cs i)))
+    (wrote_then (omega arith) c.write.ensures (wrote_then c.write.ensures.room c.write_originators.ensures (wrote_then c.write_originators.ensures.room c.write_list.ensures c.write_list-2.ensures)))

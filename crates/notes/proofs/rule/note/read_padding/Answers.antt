@@ -11,17 +11,17 @@ returns-then-left-ge8 c =
     let r = c.args.r.now in
     (excess (source r) (place r) (omega (arith, length_bits (bytes r))), ap (broken 7) c.place-place.ensures)
 
-pub returns-in-err-rest : goal.returns-in-err-rest
-returns-in-err-rest c =
+pub returns-in_err-rest : goal.returns-in_err-rest
+returns-in_err-rest c =
     let r = c.args.r.now in
     let all : place r + c.left-left.result ≡ length (source r) = omega (arith, length_bits (bytes r)) in
-    absurd (unread (source r) (place r) c.left-left.result all (omega arith) (report c.in-err-rest.field-0.0) c.in-err-rest.ensures.cases.0)
+    absurd (unread (source r) (place r) c.left-left.result all (omega arith) (report c.in_err-rest.field-0.0) c.in_err-rest.ensures.cases.0)
 
 pub returns-then-rest-ne0 : goal.returns-then-rest-ne0
 returns-then-rest-ne0 c =
     let r = c.args.r.now in
     let all : place r + c.left-left.result ≡ length (source r) = omega (arith, length_bits (bytes r)) in (
-      marked (source r) (place r) c.left-left.result all (omega arith) c.in-ok-rest.rest (place c.take.new.self) c.if-rest-ne0.true c.in-ok-rest.ensures.cases,
+      marked (source r) (place r) c.left-left.result all (omega arith) c.in_ok-rest.rest (place c.take.new.self) c.if-rest-ne0.true c.in_ok-rest.ensures.cases,
       ap (broken 7) c.place-place.ensures,
     )
 
@@ -30,4 +30,4 @@ returns c =
     let r = c.args.r.now in
     let all : place r + c.left-left.result ≡ length (source r) = omega (arith, length_bits (bytes r)) in
     blank (source r) (place r) c.left-left.result all (omega arith) (place c.take.new.self)
-    (c.in-ok-rest.ensures.cases ∙ (λ i. Ok (c.if-rest-ne0.false i, place c.take.new.self)))
+    (c.in_ok-rest.ensures.cases ∙ (λ i. Ok (c.if-rest-ne0.false i, place c.take.new.self)))

@@ -23,33 +23,33 @@ loop-i-init c =
 pub loop-i-preserved : goal.loop-i-preserved
 loop-i-preserved c =
     let r = c.args.r.now in
-    let told = c.in-ok-x.ensures in
-    let x = c.in-ok-x.x in
+    let told = c.in_ok-x.ensures in
+    let x = c.in_ok-x.x in
     let q = place c.loop-i.r in
     let m = place c.read.new.r in
     let items = listed c.loop-i.items in
     let meant = originator_of (bytes r) in
     let read : originator_reads (source r) q ≡ Ok (meant x, m) = subst (λ bs. originator_reads (bits bs) q ≡ Ok (originator_of bs x, m)) c.loop-i.invariant.0 told.cases in
-    let next = one_more originator_reads (source r) c.args.n (place r) c.loop-i.-i (map meant items) q (meant x) m c.loop-i-test.true c.loop-i.invariant.3 read in
+    let next = one_more originator_reads (source r) c.args.n (place r) c.loop-i._i (map meant items) q (meant x) m c.loop-i-test.true c.loop-i.invariant.3 read in
     let pushed : map meant (listed c.push.new.self) ≡ map meant items ++ (meant x ∷ []) = ap (map meant) c.push.ensures.items ∙ map-append meant items (x ∷ []) in (
       told.kept ∙ c.loop-i.invariant.0,
       omega (arith, c.push.ensures.len),
       told.aligned,
-      subst (λ xs. Sofar originator_reads (source r) c.args.n (place r) (c.loop-i.-i + 1) xs m) (sym pushed) next,
+      subst (λ xs. Sofar originator_reads (source r) c.args.n (place r) (c.loop-i._i + 1) xs m) (sym pushed) next,
     )
 
-pub returns-in-err-x : goal.returns-in-err-x
-returns-in-err-x c =
+pub returns-in_err-x : goal.returns-in_err-x
+returns-in_err-x c =
     let r = c.args.r.now in
-    let told = c.in-err-x.ensures in
-    let e = c.in-err-x.field-0.0 in
-    let p = err_from_is_err_and c.from-residual.result c.from-residual.ensures.1 in
+    let told = c.in_err-x.ensures in
+    let e = c.in_err-x.field-0.0 in
+    let p = err_from_is_err_and c.from_residual.result c.from_residual.ensures.1 in
     let q = place c.loop-i.r in
     let bad : originator_reads (source r) q ≡ Err (report e) = subst (λ bs. originator_reads (bits bs) q ≡ Err (report e)) c.loop-i.invariant.0 told.cases in
     record {
       kept = told.kept ∙ c.loop-i.invariant.0;
       cases = subst (λ o. ToldAs (λ l. map (originator_of (bytes r)) (listed l)) (times c.args.n originator_reads) (source r) (place r) o (place c.read.new.r)) (sym (p.1 ∙ ap Err p.2))
-          (failed originator_reads (source r) c.args.n (place r) c.loop-i.-i _ q (report e) c.loop-i-test.true c.loop-i.invariant.3 bad);
+          (failed originator_reads (source r) c.args.n (place r) c.loop-i._i _ q (report e) c.loop-i-test.true c.loop-i.invariant.3 bad);
     }
 
 pub returns : goal.returns
@@ -57,5 +57,5 @@ returns c =
     let r = c.args.r.now in
     record {
       kept = c.loop-i.invariant.0;
-      cases = all_read originator_reads (source r) c.args.n (place r) c.loop-i.-i _ (place c.loop-i.r) c.loop-i-test.false c.loop-i.invariant.3;
+      cases = all_read originator_reads (source r) c.args.n (place r) c.loop-i._i _ (place c.loop-i.r) c.loop-i-test.false c.loop-i.invariant.3;
     }

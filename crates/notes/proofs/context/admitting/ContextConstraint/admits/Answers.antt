@@ -12,7 +12,7 @@ returns c =
     let self = c.args.self.now in
     let v = c.args.v.now in
     let times : c.list_admits.result ≡ list_admits window_admits (listed self.windows) (Some v.instant.civil) =
-    c.list_admits.ensures ∙ ap (λ xs. list_admits (λ w i. window_admits w i.civil) xs (Some v.instant)) c.as-slice.ensures in
-    let blocks = c.list-admits-2.ensures ∙ ap (λ xs. list_admits block_admits xs (offered v.has_address v.address)) c.as-slice-2.ensures in
-    let countries = c.list-admits-3.ensures ∙ ap (λ xs. list_admits country_same xs (offered v.has_country v.country)) c.as-slice-3.ensures in
+    c.list_admits.ensures ∙ ap (λ xs. list_admits (λ w i. window_admits w i.civil) xs (Some v.instant)) c.as_slice.ensures in
+    let blocks = c.list_admits-2.ensures ∙ ap (λ xs. list_admits block_admits xs (offered v.has_address v.address)) c.as_slice-2.ensures in
+    let countries = c.list_admits-3.ensures ∙ ap (λ xs. list_admits country_same xs (offered v.has_country v.country)) c.as_slice-3.ensures in
     λ i. times i && (blocks i && countries i)
