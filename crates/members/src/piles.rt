@@ -13,7 +13,7 @@ use super::tokens::TokenLayer;
 use texts::{Identity, Standing};
 
 fn ask<L: MemberList>(members: &L, identity: &Identity, standing: &[u8]) -> bool
-    ensures { result ≡ pairs members.now (identity_text identity.now) standing.now }
+    ensures { result ≡ L.pairs members.now (identity_text identity.now) standing.now }
 {
     members.has(identity, standing)
 }

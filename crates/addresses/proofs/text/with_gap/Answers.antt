@@ -6,4 +6,4 @@ use Rattle.addresses.proofs.text.with_gap.Goals as goal
 pub returns : goal.returns
 returns c =
     c.fill.ensures
-    ∙ joined_is (side c.args.front.now) (side c.args.back.now) _ _ c.in-ok-first.ensures.parts c.in-ok-last.ensures.parts
+    ∙ joined_is (side c.args.front.now) (side c.args.back.now) _ _ c.in_ok-first.ensures.parts c.in_ok-last.ensures.parts

@@ -4,8 +4,8 @@ use Rattle.members.specs.Leavers.{OnceEach, noted}
 use Rattle.members.proofs.Noting.{none_noted, once_none}
 use Rattle.members.proofs.leavers.LeaversLayer.new.Goals as goal
 
-pub invariant-of-result : goal.invariant-of-result
-invariant-of-result g c = (subst OnceEach (sym c.new.ensures) once_none, tt)
+pub invariant_of-result : goal.invariant_of-result
+invariant_of-result g c = record { once = subst OnceEach (sym c.new.ensures) once_none }
 
 pub returns : goal.returns
 returns g c =

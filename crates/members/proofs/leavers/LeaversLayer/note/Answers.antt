@@ -6,12 +6,12 @@ use Rattle.members.proofs.Noting.{once_entered, lost_entered, lost_known}
 use Rattle.members.proofs.RowLaws.{identity_short}
 use Rattle.members.proofs.leavers.LeaversLayer.note.Goals as goal
 
-pub invariant-of-self : goal.invariant-of-self
-invariant-of-self g c =
+pub invariant_of-self : goal.invariant_of-self
+invariant_of-self g c =
     let self = c.args.self.now in
-    let found = c.in-Some-find-free.ensures in
+    let found = c.in-Some-find_free.ensures in
     let once = once_entered self.table.entries _ found.2 _ (identity_short c.args.identity.now) found.3 c.in-None.ensures self.once in
-    (subst OnceEach (sym c.enter.ensures) once, tt)
+    record { once = subst OnceEach (sym c.enter.ensures) once }
 
 pub returns-in-Some : goal.returns-in-Some
 returns-in-Some g c =
@@ -23,14 +23,14 @@ returns-in-Some g c =
       meaning = lost_known self.table.entries (g.L.MemberList.pairs self.below) (identity_text c.args.identity.now) there;
     }
 
-pub returns-in-Some-find-free : goal.returns-in-Some-find-free
-returns-in-Some-find-free g c =
+pub returns-in-Some-find_free : goal.returns-in-Some-find_free
+returns-in-Some-find_free g c =
     let xs = c.args.self.now.table.entries in
     let below = g.L.MemberList.pairs c.args.self.now.below in
-    let found = c.in-Some-find-free.ensures in
+    let found = c.in-Some-find_free.ensures in
     let room : eqb (count_by taken xs) 16 ≡ false = ne_eqb _ 16 (λ e. omega (arith, e, found.0)) in
     record {
       below = refl;
-      noted = rw (c.in-None.ensures, room) (refl, (c.in-Some-find-free.k, found.2, found.3, c.enter.ensures));
+      noted = rw (c.in-None.ensures, room) (refl, (c.in-Some-find_free.k, found.2, found.3, c.enter.ensures));
       meaning = λ j s. ap (λ l. without_noted l below j s) c.enter.ensures ∙ lost_entered xs _ found.2 _ (identity_short c.args.identity.now) found.3 below j s;
     }

@@ -4,11 +4,11 @@ use Rattle.members.specs.Leavers.{OnceEach, without_noted}
 use Rattle.members.proofs.Noting.{once_cleared, regained_cleared, regained_known}
 use Rattle.members.proofs.leavers.LeaversLayer.readmit.Goals as goal
 
-pub invariant-of-self : goal.invariant-of-self
-invariant-of-self g c =
+pub invariant_of-self : goal.invariant_of-self
+invariant_of-self g c =
     let self = c.args.self.now in
     let found = c.in-Some.ensures in
-    (subst OnceEach (sym c.clear.ensures) (once_cleared self.table.entries _ found.2 _ found.3 self.once), tt)
+    record { once = subst OnceEach (sym c.clear.ensures) (once_cleared self.table.entries _ found.2 _ found.3 self.once) }
 
 pub returns-in-Some : goal.returns-in-Some
 returns-in-Some g c =

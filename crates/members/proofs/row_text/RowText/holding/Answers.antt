@@ -9,4 +9,4 @@ returns c =
     let n = length c.args.text.now in
     let left : 40 - (n - 0) ≡ 40 - n = omega arith in
     let zeros : drop (n - 0) (replicate 40 0) ≡ replicate (40 - n) 0 = drop-replicate (n - 0) 40 0 ∙ ap (λ k. replicate k 0) left in
-    λ i. record { bytes = c.copy-from-slice.ensures.after i ++ zeros i; len = n }
+    λ i. record { bytes = c.copy_from_slice.ensures.after i ++ zeros i; len = n }

@@ -14,13 +14,13 @@ returns-then-has g c =
     let held = presented_rows c.args.self.now.held in
     let i = identity_text c.args.identity.now in
     let s = standing_text c.args.standing.now in
-    let there : listed held i s ≡ true = sym (c.if-has.ensures ∙ λ k. listed held (c.as-bytes.ensures k) (c.as-bytes-2.ensures k)) in
+    let there : listed held i s ≡ true = sym (c.if-has.ensures ∙ λ k. listed held (c.as_bytes.ensures k) (c.as_bytes-2.ensures k)) in
     record { below = refl; held = rw there (refl, refl); meaning = gains_nothing held (g.L.MemberList.pairs c.args.self.now.below) i s there }
 
 pub push-requires : goal.push-requires
 push-requires g c =
     let pairs = c.args.self.now.held in
-    omega (arith, pairs.few, length-take pairs.len pairs.rows, eqb-false _ 8 (sym c.if-is-full.ensures))
+    omega (arith, pairs.few, length-take pairs.len pairs.rows, eqb-false _ 8 (sym c.if-is_full.ensures))
 
 pub returns : goal.returns
 returns g c =
@@ -28,14 +28,14 @@ returns g c =
     let held = presented_rows pairs in
     let i = identity_text c.args.identity.now in
     let s = standing_text c.args.standing.now in
-    let new : listed held i s ≡ false = sym (c.if-has.ensures ∙ λ k. listed held (c.as-bytes.ensures k) (c.as-bytes-2.ensures k)) in
+    let new : listed held i s ≡ false = sym (c.if-has.ensures ∙ λ k. listed held (c.as_bytes.ensures k) (c.as_bytes-2.ensures k)) in
     let below = g.L.MemberList.pairs c.args.self.now.below in
     let later : presented_rows c.push.new.self ≡ held ++ (row_of i s ∷ []) =
     (λ k. take (c.push.ensures.len k) (c.push.ensures.rows k)) ∙ take_more_set pairs.rows pairs.len c.new.result c.push.ensures.room
     ∙ ap (λ r. held ++ (r ∷ [])) c.new.ensures in
     record {
       below = refl;
-      held = rw (new, sym c.if-is-full.ensures) (refl, later);
+      held = rw (new, sym c.if-is_full.ensures) (refl, later);
       meaning =
           λ j t. ap (λ l. with_presented l below j t) later
           ∙ gains_one held below i s (identity_short c.args.identity.now) (standing_short c.args.standing.now) j t;
