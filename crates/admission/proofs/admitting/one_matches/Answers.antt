@@ -7,15 +7,15 @@ use Rattle.admission.specs.Admitting.{originator_matches}
 use Rattle.texts.proofs.Searches.{some_found, some_on}
 use Rattle.admission.proofs.admitting.one_matches.Goals as goal
 
-pub returns-then-entry-matches : goal.returns-then-entry-matches
-returns-then-entry-matches g c =
+pub returns-then-entry_matches : goal.returns-then-entry_matches
+returns-then-entry_matches g c =
     some_found (λ o. originator_matches (domain_text c.args.home.now) (g.L.MemberList.pairs c.args.members.now) (identity_text c.args.identity.now) (originator_of c.args.note.now o))
-    c.args.entries.now c.loop-entry.entry-index _ c.loop-entry-test.true (get_or_default _ _ _ _ c.loop-entry-test.true) c.loop-entry.invariant (sym c.if-entry-matches.ensures)
+    c.args.entries.now c.loop-entry.entry-index _ c.loop-entry-test.true (get_or_default _ _ _ _ c.loop-entry-test.true) c.loop-entry.invariant (sym c.if-entry_matches.ensures)
 
 pub loop-entry-preserved : goal.loop-entry-preserved
 loop-entry-preserved g c =
     some_on (λ o. originator_matches (domain_text c.args.home.now) (g.L.MemberList.pairs c.args.members.now) (identity_text c.args.identity.now) (originator_of c.args.note.now o))
-    c.args.entries.now c.loop-entry.entry-index _ c.loop-entry-test.true (get_or_default _ _ _ _ c.loop-entry-test.true) c.loop-entry.invariant (sym c.if-entry-matches.ensures)
+    c.args.entries.now c.loop-entry.entry-index _ c.loop-entry-test.true (get_or_default _ _ _ _ c.loop-entry-test.true) c.loop-entry.invariant (sym c.if-entry_matches.ensures)
 
 pub returns : goal.returns
 returns g c =

@@ -7,16 +7,16 @@ use Rattle.admission.specs.Covering.{originator_covers}
 use Rattle.texts.proofs.Searches.{some_found, some_on}
 use Rattle.admission.proofs.covering.one_covers.Goals as goal
 
-pub returns-then-entry-covers : goal.returns-then-entry-covers
-returns-then-entry-covers c =
-    some_found (λ o. originator_covers (domain_text c.args.home.now) (originator_of c.args.note.now o) (originator_of c.args.other-note.now c.args.other.now))
-    c.args.entries.now c.loop-entry.entry-index _ c.loop-entry-test.true (get_or_default _ _ _ _ c.loop-entry-test.true) c.loop-entry.invariant (sym c.if-entry-covers.ensures)
+pub returns-then-entry_covers : goal.returns-then-entry_covers
+returns-then-entry_covers c =
+    some_found (λ o. originator_covers (domain_text c.args.home.now) (originator_of c.args.note.now o) (originator_of c.args.other_note.now c.args.other.now))
+    c.args.entries.now c.loop-entry.entry-index _ c.loop-entry-test.true (get_or_default _ _ _ _ c.loop-entry-test.true) c.loop-entry.invariant (sym c.if-entry_covers.ensures)
 
 pub loop-entry-preserved : goal.loop-entry-preserved
 loop-entry-preserved c =
-    some_on (λ o. originator_covers (domain_text c.args.home.now) (originator_of c.args.note.now o) (originator_of c.args.other-note.now c.args.other.now))
-    c.args.entries.now c.loop-entry.entry-index _ c.loop-entry-test.true (get_or_default _ _ _ _ c.loop-entry-test.true) c.loop-entry.invariant (sym c.if-entry-covers.ensures)
+    some_on (λ o. originator_covers (domain_text c.args.home.now) (originator_of c.args.note.now o) (originator_of c.args.other_note.now c.args.other.now))
+    c.args.entries.now c.loop-entry.entry-index _ c.loop-entry-test.true (get_or_default _ _ _ _ c.loop-entry-test.true) c.loop-entry.invariant (sym c.if-entry_covers.ensures)
 
 pub returns : goal.returns
 returns c =
-    sym (at_drop_all (some (λ o. originator_covers (domain_text c.args.home.now) (originator_of c.args.note.now o) (originator_of c.args.other-note.now c.args.other.now))) c.args.entries.now c.loop-entry.entry-index c.loop-entry-test.false) ∙ c.loop-entry.invariant
+    sym (at_drop_all (some (λ o. originator_covers (domain_text c.args.home.now) (originator_of c.args.note.now o) (originator_of c.args.other_note.now c.args.other.now))) c.args.entries.now c.loop-entry.entry-index c.loop-entry-test.false) ∙ c.loop-entry.invariant

@@ -6,22 +6,22 @@ use Rattle.admission.specs.Requests.{request_of}
 use Rattle.admission.specs.Views.{rule_in}
 use Rattle.admission.proofs.view.RuleView.admits.Goals as goal
 
-pub returns-then-not-is-for : goal.returns-then-not-is-for
+pub returns-then-not-is_for : goal.returns-then-not-is_for
 unfolding rule_admits
-returns-then-not-is-for g c =
+returns-then-not-is_for g c =
     let r = rule_in c.args.self.now in
     let q = request_of c.args.request.now in
     let from = some (originator_matches (domain_text c.args.home.now) (g.L.MemberList.pairs c.args.members.now) q.identity) r.originators in
-    λ i. c.if-not-is-for.ensures i && (contexts_admit r.contexts q && from)
+    λ i. c.if-not-is_for.ensures i && (contexts_admit r.contexts q && from)
 
-pub returns-then-not-contexts-admit : goal.returns-then-not-contexts-admit
+pub returns-then-not-contexts_admit : goal.returns-then-not-contexts_admit
 unfolding rule_admits
-returns-then-not-contexts-admit g c =
+returns-then-not-contexts_admit g c =
     let r = rule_in c.args.self.now in
     let q = request_of c.args.request.now in
     let from = some (originator_matches (domain_text c.args.home.now) (g.L.MemberList.pairs c.args.members.now) q.identity) r.originators in
-    λ i. c.if-not-is-for.ensures i && (c.if-not-contexts-admit.ensures i && from)
+    λ i. c.if-not-is_for.ensures i && (c.if-not-contexts_admit.ensures i && from)
 
 pub returns : goal.returns
 unfolding rule_admits
-returns g c = λ i. c.if-not-is-for.ensures i && (c.if-not-contexts-admit.ensures i && c.is-from.ensures i)
+returns g c = λ i. c.if-not-is_for.ensures i && (c.if-not-contexts_admit.ensures i && c.is_from.ensures i)

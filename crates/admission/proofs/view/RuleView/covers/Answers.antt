@@ -8,4 +8,4 @@ pub returns : goal.returns
 unfolding rule_covers
 returns c =
     let side = c.same.ensures ∙ (λ i. same_side (c.side.ensures i) (c.side-2.ensures i)) in
-    record { answer = λ i. side i && ((not (c.authenticated.ensures i) || c.authenticated-2.ensures i) && (c.has-operations-of.ensures i && (c.originators_cover.ensures i && c.lists_cover.ensures i))); law = rules_sound }
+    record { answer = λ i. side i && ((not (c.authenticated.ensures i) || c.authenticated-2.ensures i) && (c.has_operations_of.ensures i && (c.originators_cover.ensures i && c.lists_cover.ensures i))); law = rules_sound }

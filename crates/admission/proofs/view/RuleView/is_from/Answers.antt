@@ -11,4 +11,4 @@ pub returns : goal.returns
 returns g c =
     let matches = originator_matches (domain_text c.args.home.now) (g.L.MemberList.pairs c.args.members.now) (identity_text c.args.request.now.identity) in
     let shown = originator_of c.args.self.now.note.now in
-    c.one-matches.ensures ∙ ap (some (λ o. matches (shown o))) c.originators.ensures ∙ sym (some_map matches shown (listed c.args.self.now.parts.now.originators))
+    c.one_matches.ensures ∙ ap (some (λ o. matches (shown o))) c.originators.ensures ∙ sym (some_map matches shown (listed c.args.self.now.parts.now.originators))

@@ -12,5 +12,5 @@ returns c =
     let covers = originator_covers (domain_text c.args.home.now) in
     let here = originator_of c.args.self.now.note.now in
     let there = originator_of c.args.other.now.note.now in
-    c.each-covered.ensures ∙ (λ i. each (λ p. some (λ o. covers (here o) (there p)) (c.originators.ensures i)) (c.originators-2.ensures i))
+    c.each_covered.ensures ∙ (λ i. each (λ p. some (λ o. covers (here o) (there p)) (c.originators.ensures i)) (c.originators-2.ensures i))
     ∙ sym (each_some_map covers here there (listed c.args.self.now.parts.now.originators) (listed c.args.other.now.parts.now.originators))
