@@ -26,8 +26,8 @@ pub fn short_season<L: MemberList>(
     request: &Request,
     members: &L,
 ) -> (Answered, Answered)
-    ensures first { Numbered (decided result.0) (book_count (record { home = domain_text home; rows = vec_len rows; targets = vec_len targets }) (link 3 1 ∷ (add 1 9 note.now ∷ [])) request.now (pairs members.now)) }
-    ensures second { Numbered (decided result.1) (book_count (record { home = domain_text home; rows = vec_len rows; targets = vec_len targets }) (withdraw 1 9 ∷ (judge request.now (pairs members.now) ∷ (link 3 1 ∷ (add 1 9 note.now ∷ [])))) request.now (pairs members.now)) }
+    ensures first { Numbered (decided result.0) (book_count (record { home = domain_text home; rows = vec_len rows; targets = vec_len targets }) (link 3 1 ∷ (add 1 9 note.now ∷ [])) request.now (L.pairs members.now)) }
+    ensures second { Numbered (decided result.1) (book_count (record { home = domain_text home; rows = vec_len rows; targets = vec_len targets }) (withdraw 1 9 ∷ (judge request.now (L.pairs members.now) ∷ (link 3 1 ∷ (add 1 9 note.now ∷ [])))) request.now (L.pairs members.now)) }
 {
     let mut register = Register::open(home, rows, targets);
     let _added = register.add(1, 9, note);

@@ -68,7 +68,7 @@ impl Register {
         request: &CheckedRequest,
         members: &L,
     ) -> bool
-        ensures { result ≡ hits (passes (domain_text self.now.home) (is_linked (tables self.now)) target (pairs members.now) (request_of request.now)) row.now }
+        ensures { result ≡ hits (passes (domain_text self.now.home) (is_linked (tables self.now)) target (L.pairs members.now) (request_of request.now)) row.now }
     {
         if !row.is_used() {
             return false;
@@ -86,7 +86,7 @@ impl Register {
         request: &CheckedRequest,
         members: &L,
     ) -> Verdict
-        ensures { Decision (holdings (tables self.now)).count (passes (domain_text self.now.home) (is_linked (tables self.now)) target (pairs members.now) (request_of request.now)) (verdict_given result) }
+        ensures { Decision (holdings (tables self.now)).count (passes (domain_text self.now.home) (is_linked (tables self.now)) target (L.pairs members.now) (request_of request.now)) (verdict_given result) }
     {
         let mut verdict = Verdict::Deny;
         for row in self.used_rows() {
@@ -98,7 +98,7 @@ impl Register {
     }
 
     fn decide<L: MemberList>(&self, request: &Request, members: &L) -> Result<Verdict, Cause>
-        ensures { Judgement (request_refusal (vec_len self.now.targets) request.now) (holdings (tables self.now)).count (counts (domain_text self.now.home) (is_linked (tables self.now)) request.now (pairs members.now)) (judged_so result) }
+        ensures { Judgement (request_refusal (vec_len self.now.targets) request.now) (holdings (tables self.now)).count (counts (domain_text self.now.home) (is_linked (tables self.now)) request.now (L.pairs members.now)) (judged_so result) }
     {
         self.check_target(request.target)?;
         let checked = request.check()?;
@@ -112,8 +112,8 @@ impl Register {
         request: &Request,
         members: &L,
     ) -> Result<Verdict, RegisterFault>
-        ensures answer { Served (judge_call request.now (pairs members.now)) (tables self.now) (decided result) (tables self.now) }
-        ensures season { (o : Opening) (ms : List Met) → Through o ms (tables self.now) → Law o (record { call = judge_call request.now (pairs members.now); answer = decided result } ∷ ms) }
+        ensures answer { Served (judge_call request.now (L.pairs members.now)) (tables self.now) (decided result) (tables self.now) }
+        ensures season { (o : Opening) (ms : List Met) → Through o ms (tables self.now) → Law o (record { call = judge_call request.now (L.pairs members.now); answer = decided result } ∷ ms) }
     {
         match self.decide(request, members) {
             Ok(verdict) => Ok(verdict),

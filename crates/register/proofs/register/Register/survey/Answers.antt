@@ -9,35 +9,35 @@ use Rattle.register.specs.Verdicts.{with_one_more}
 use Rattle.register.specs.declared.verdict.Verdict.{Verdict}
 use Rattle.register.proofs.Surveys.{among, verdict_few, passed_over, passed_with}
 use Rattle.register.proofs.register.Register.survey.Goals as goal
-use Rattle.register.proofs.register.Register.survey.Goals.{then-is-passed, else-is-passed}
+use Rattle.register.proofs.register.Register.survey.Goals.{then-is_passed, else-is_passed}
 
 pub loop-row-init : goal.loop-row-init
-loop-row-init g c = (c.used-rows-row-items.ensures, refl)
+loop-row-init g c = (c.used_rows-row-items.ensures, refl)
 
 pub with-verdict-requires : goal.with-verdict-requires
 with-verdict-requires g c =
-    let xs = c.used-rows-row-items.result.now in
-    let few : length xs ≤ 256 = omega (arith, ap length c.used-rows-row-items.ensures, length-take 256 (vec_items c.args.self.now.rows)) in
+    let xs = c.used_rows-row-items.result.now in
+    let few : length xs ≤ 256 = omega (arith, ap length c.used_rows-row-items.ensures, length-take 256 (vec_items c.args.self.now.rows)) in
     let front : length (take c.loop-row.row-index xs) ≤ 256 = omega (arith, length-take c.loop-row.row-index xs) in
     omega (arith, verdict_few (passes (domain_text c.args.self.now.home) (is_linked (tables c.args.self.now)) c.args.target (g.L.MemberList.pairs c.args.members.now) (request_of c.args.request.now)) (take c.loop-row.row-index xs) c.loop-row.verdict front c.loop-row.invariant.1)
 
 pub loop-row-preserved : goal.loop-row-preserved
 loop-row-preserved g c =
     let f = passes (domain_text c.args.self.now.home) (is_linked (tables c.args.self.now)) c.args.target (g.L.MemberList.pairs c.args.members.now) (request_of c.args.request.now) in
-    let xs = c.used-rows-row-items.result.now in
+    let xs = c.used_rows-row-items.result.now in
     let i = c.loop-row.row-index in
     let v = c.loop-row.verdict in
     let P : Verdict → Type 0 = λ x. Decision (among (take (i + 1) xs)) f (verdict_given x) in (
-      c.used-rows-row-items.ensures,
-      elim c.if-is-passed.branch [
-        | then-is-passed w ↦
+      c.used_rows-row-items.ensures,
+      elim c.if-is_passed.branch [
+        | then-is_passed w ↦
             subst P (sym (w.verdict-is ∙ w.with-verdict.ensures ∙ (λ j. with_one_more v (w.policy.ensures j) (w.number.ensures j))))
-            (passed_with f xs i _ c.loop-row-test.true (sym w.if-is-passed.ensures) v c.loop-row.invariant.1)
-        | else-is-passed w ↦ subst P (sym w.verdict-is) (passed_over f xs i _ c.loop-row-test.true v (sym w.if-is-passed.ensures) c.loop-row.invariant.1)
+            (passed_with f xs i _ c.loop-row-test.true (sym w.if-is_passed.ensures) v c.loop-row.invariant.1)
+        | else-is_passed w ↦ subst P (sym w.verdict-is) (passed_over f xs i _ c.loop-row-test.true v (sym w.if-is_passed.ensures) c.loop-row.invariant.1)
       ],
     )
 
 pub returns : goal.returns
 returns g c =
     subst (λ l. Decision (among l) (passes (domain_text c.args.self.now.home) (is_linked (tables c.args.self.now)) c.args.target (g.L.MemberList.pairs c.args.members.now) (request_of c.args.request.now)) (verdict_given c.loop-row.verdict))
-    (take_all _ _ c.loop-row-test.false ∙ c.used-rows-row-items.ensures) c.loop-row.invariant.1
+    (take_all _ _ c.loop-row-test.false ∙ c.used_rows-row-items.ensures) c.loop-row.invariant.1

@@ -8,4 +8,4 @@ loop-i-preserved c =
     let before = c.args.targets.now in
     let now = c.loop-i.targets in
     ap (set (vec_items now) c.loop-i.i) c.unlinked.ensures
-    ∙ map_over_more (λ _. unlinked) (vec_items before) (vec_items now) c.loop-i.i c.index-mut.result.now (omega (arith, before.ok.0)) c.loop-i.invariant c.index-mut.ensures.value
+    ∙ map_over_more (λ _. unlinked) (vec_items before) (vec_items now) c.loop-i.i c.index_mut.result.now (omega (arith, before.ok.0)) c.loop-i.invariant c.index_mut.ensures.value

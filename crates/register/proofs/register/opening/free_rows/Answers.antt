@@ -7,5 +7,5 @@ pub loop-i-preserved : goal.loop-i-preserved
 loop-i-preserved c =
     let before = c.args.rows.now in
     let now = c.loop-i.rows in
-    ap (set (vec_items now) c.loop-i.i) c.mark-free.ensures
-    ∙ map_over_more freed (vec_items before) (vec_items now) c.loop-i.i c.index-mut.result.now (omega (arith, before.ok.0)) c.loop-i.invariant c.index-mut.ensures.value
+    ap (set (vec_items now) c.loop-i.i) c.mark_free.ensures
+    ∙ map_over_more freed (vec_items before) (vec_items now) c.loop-i.i c.index_mut.result.now (omega (arith, before.ok.0)) c.loop-i.invariant c.index_mut.ensures.value
