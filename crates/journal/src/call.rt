@@ -30,8 +30,8 @@ impl<'a> Call<'a> {
         space: &'a mut [u8],
         other_space: &'a mut [u8],
     ) -> Result<Call<'a>, Unreadable>
-        requires line_in_bounds { length line.now ≤ length space.old }
-        requires line_in_bounds_2 { length line.now ≤ length other_space.old }
+        requires space_in_bounds { length line.now ≤ length space.old }
+        requires other_space_in_bounds { length line.now ≤ length other_space.old }
         ensures { ReadsLine (pieces 32 line.now) result }
     {
         let mut words = Words::new(line);
@@ -48,7 +48,7 @@ fn arguments<'a>(
     other_space: &'a mut [u8],
 ) -> Result<Call<'a>, Unreadable>
     requires within { Within (length space.old) (left words.old) }
-    requires within_2 { Within (length other_space.old) (left words.old) }
+    requires other_within { Within (length other_space.old) (left words.old) }
     ensures { ReadsCall name (left words.old) result }
 {
     // Each arm returns at once: a space is lent on in some of them only, and the checker does not join such ways.
@@ -108,7 +108,7 @@ fn cover<'a>(
     other_space: &'a mut [u8],
 ) -> Result<Call<'a>, Unreadable>
     requires within { Within (length space.old) (left words.old) }
-    requires within_2 { Within (length other_space.old) (left words.old) }
+    requires other_within { Within (length other_space.old) (left words.old) }
     ensures { ReadsCall Cover (left words.old) result }
 {
     let first = field::note(words, 2, space)?;

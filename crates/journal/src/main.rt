@@ -19,6 +19,7 @@ mod written;
 use replay::{Replay, Stopped};
 use std::fs::File;
 use std::io::{BufReader, BufWriter, Write};
+use std::process::ExitCode;
 use std::{env, fmt, io};
 
 // Why the program ends with status 1.
@@ -41,13 +42,21 @@ impl fmt::Display for Failure {
     }
 }
 
-fn main(rt: HostRuntime) -> Result<(), Failure> {
-    let mut replay = Replay::new(rt.alloc(), BufWriter::new(rt.stdout()));
-    let result = run(&rt, &mut replay);
-    if let Err(failure) = &result {
-        let _ = eprintln!(rt; "journal: {failure}");
+fn main(rt: HostRuntime) -> ExitCode {
+    match start(&rt) {
+        Ok(()) => ExitCode::SUCCESS,
+        Err(failure) => {
+            let _ = eprintln!(rt; "journal: {failure}");
+            ExitCode::FAILURE
+        }
     }
-    result
+}
+
+fn start(rt: &HostRuntime) -> Result<(), Failure> {
+    match BufWriter::new(rt.alloc(), rt.stdout()) {
+        Ok(out) => run(rt, &mut Replay::new(rt.alloc(), out)),
+        Err(error) => Err(Failure::Output(error)),
+    }
 }
 
 fn run<W: Write>(rt: &HostRuntime, replay: &mut Replay<W>) -> Result<(), Failure> {
@@ -69,7 +78,11 @@ fn run<W: Write>(rt: &HostRuntime, replay: &mut Replay<W>) -> Result<(), Failure
 }
 
 fn read_input<W: Write>(rt: &HostRuntime, replay: &mut Replay<W>) -> Result<(), Failure> {
-    match replay.read_all(&mut BufReader::new(rt.stdin())) {
+    let mut input = match BufReader::new(rt.alloc(), rt.stdin()) {
+        Ok(input) => input,
+        Err(error) => return Err(Failure::Input(error)),
+    };
+    match replay.read_all(&mut input) {
         Ok(()) => Ok(()),
         Err(Stopped::Read(error)) => Err(Failure::Input(error)),
         Err(Stopped::Write(error)) => Err(Failure::Output(error)),
@@ -85,7 +98,11 @@ fn read_file<W: Write>(
         Ok(file) => file,
         Err(error) => return Err(Failure::File(name, error)),
     };
-    match replay.read_all(&mut BufReader::new(file)) {
+    let mut input = match BufReader::new(rt.alloc(), file) {
+        Ok(input) => input,
+        Err(error) => return Err(Failure::File(name, error)),
+    };
+    match replay.read_all(&mut input) {
         Ok(()) => Ok(()),
         Err(Stopped::Read(error)) => Err(Failure::File(name, error)),
         Err(Stopped::Write(error)) => Err(Failure::Output(error)),

@@ -79,8 +79,8 @@ impl<W: Write> Replay<W> {
 
     // Writes the line that was read, with its answer if it is a call.
     fn answer_line(&mut self) -> io::Result<()>
-        requires line_in_bounds { vec_len self.old.line ≤ vec_len self.old.note }
-        requires line_in_bounds_2 { vec_len self.old.line ≤ vec_len self.old.other_note }
+        requires space_in_bounds { vec_len self.old.line ≤ vec_len self.old.note }
+        requires other_space_in_bounds { vec_len self.old.line ≤ vec_len self.old.other_note }
         ensures { is_ok result ≡ true → Stepped self.old.line.items self.old.state self.old.tally self.new.state self.new.tally }
     {
         let line = without_line_feed(self.line.as_slice());

@@ -31,8 +31,8 @@ impl State {
         space: &'a mut [u8],
         other_space: &'a mut [u8],
     ) -> Answer
-        requires line_in_bounds { length line.now ≤ length space.old }
-        requires line_in_bounds_2 { length line.now ≤ length other_space.old }
+        requires space_in_bounds { length line.now ≤ length space.old }
+        requires other_space_in_bounds { length line.now ≤ length other_space.old }
         ensures { Replied (pieces 32 line.now) self.old result self.new }
     {
         match Call::read(line, space, other_space) {

@@ -5,14 +5,14 @@ use Rattle.journal.specs.Notes.{Noted}
 use Rattle.journal.proofs.Faults.{missed, unread}
 use Rattle.journal.proofs.call.write.Goals as goal
 
-pub returns-in-err-note : goal.returns-in-err-note
-returns-in-err-note c =
-    let p = err_from_is_err_and c.from-residual.result c.from-residual.ensures.1 in
-    let told = c.in-err-note.ensures in
+pub returns-in_err-note : goal.returns-in_err-note
+returns-in_err-note c =
+    let p = err_from_is_err_and c.from_residual.result c.from_residual.ensures.1 in
+    let told = c.in_err-note.ensures in
     rw (p.1, p.2) (unread Write _ _ (inl (told.0, missed Noted told.1)))
 
 pub returns : goal.returns
 returns c =
-    let taken = c.in-ok-note.ensures in
-    let ended = c.in-ok-end.ensures in
-    (taken.0, c.in-ok-note.note, taken.1 ∙ ap (λ words. taken.0 ∷ words) ended, taken.2, refl)
+    let taken = c.in_ok-note.ensures in
+    let ended = c.in_ok-end.ensures in
+    (taken.0, c.in_ok-note.note, taken.1 ∙ ap (λ words. taken.0 ∷ words) ended, taken.2, refl)

@@ -9,7 +9,7 @@ use Rattle.journal.proofs.field.name.Goals as goal
 some : (name : CallName) → 0 < length (spelling name)
 some name = search rules
 
-pub returns-in-err-word : goal.returns-in-err-word
-returns-in-err-word c =
-    let p = err_from_is_err_and c.from-residual.result c.from-residual.ensures.1 in
-    rw (p.1, p.2) (none Named _ _ _ (λ word name e. rw e (some name)) c.in-err-word.ensures)
+pub returns-in_err-word : goal.returns-in_err-word
+returns-in_err-word c =
+    let p = err_from_is_err_and c.from_residual.result c.from_residual.ensures.1 in
+    rw (p.1, p.2) (none Named _ _ _ (λ word name e. rw e (some name)) c.in_err-word.ensures)

@@ -8,9 +8,9 @@ loop-i-preserved c =
     let word = c.args.word.now in
     let before = c.loop-i.space in
     let i = c.loop-i.i in
-    let b = c.in-ok-space.field-0 in
+    let b = c.in_ok-space.field-0 in
     let P : ℕ → Type 0 = λ k. Pair (get_or word (2 * k) 0) (get_or word (2 * k + 1) 0) (get_or (set before i b) k 0) in
-    let told = c.in-ok-space.ensures in
+    let told = c.in_ok-space.ensures in
     let fits : i < length before = omega arith in
     below_more P i
     (λ k h. let was = c.loop-i.invariant k h in (was.0, was.1, get_or-set_other before i k b 0 (ne_of_lt h) ∙ was.2))

@@ -8,22 +8,25 @@ use Rattle.journal.proofs.Calls.{by_name}
 use Rattle.journal.proofs.Pieces.{pieces_within}
 use Rattle.journal.proofs.call.Call.read.Goals as goal
 
-pub returns-in-err-name : goal.returns-in-err-name
-returns-in-err-name c =
-    let p = err_from_is_err_and c.from-residual.result c.from-residual.ensures.1 in
-    let told = c.in-err-name.ensures in
+pub returns-in_err-name : goal.returns-in_err-name
+returns-in_err-name c =
+    let p = err_from_is_err_and c.from_residual.result c.from_residual.ensures.1 in
+    let told = c.in_err-name.ensures in
     let same = c.new-words.ensures in
     rw (p.1, p.2) (λ call s. told.1 (spelling s.0) s.1 s.0 (same ∙ s.2) refl, inl (told.0 ∙ ap (fault (field_at 1 Name)) same, λ words first. told.1 first.0 words first.1 (same ∙ first.2) first.3))
 
 pub arguments-requires : goal.arguments-requires
 arguments-requires c =
-    let taken = c.in-ok-name.ensures in
+    let taken = c.in_ok-name.ensures in
     let within : (n : ℕ) → length c.args.line.now ≤ n → Within n (left c.name.new.words) =
     λ n fits. (subst (Within n) (sym c.new-words.ensures ∙ taken.1) (pieces_within 32 c.args.line.now n fits)).1
     in
-    (within (length c.args.space.now) c.requires.0, within (length c.args.other-space.now) c.requires.1)
+    record {
+      within = within (length c.args.space.now) c.requires.space_in_bounds;
+      other_within = within (length c.args.other_space.now) c.requires.other_space_in_bounds;
+    }
 
 pub returns : goal.returns
 returns c =
-    let taken = c.in-ok-name.ensures in
+    let taken = c.in_ok-name.ensures in
     by_name _ _ _ _ _ (sym c.new-words.ensures ∙ taken.1) taken.2 c.arguments.ensures
