@@ -1,18 +1,15 @@
 -- Two misreadings that are shut out. Assumes nothing.
-use Rattle.std.proofs.Common.{◌≡◌, ℕ, suc, ◌-◌, ◌<◌, Bool, true, ◌&&◌, ◌||◌, List, [], ◌∷◌, length, get_or, Some, Option, ⊎_elim, arith}
+use Rattle.std.proofs.Common.{◌≡◌, ℕ, suc, ◌-◌, ◌<◌, Bool, true, List, [], ◌∷◌, length, get_or, Some, ⊎_elim, arith}
 use borrow.Author.Tests.{clash}
-use Rattle.calendar.specs.declared.civil.CivilTime.{CivilTime}
 use Rattle.texts.specs.Lists.{some}
 use Rattle.texts.proofs.Bools.{both_true, or_true}
 use Rattle.notes.specs.Blocks.{block_admits}
-use Rattle.notes.specs.Constraints.{list_admits}
-use Rattle.notes.specs.Contexts.{ContextValue, context_admits}
+use Rattle.notes.specs.Constraints.{list_admits_option}
+use Rattle.notes.specs.Contexts.{context_admits}
 use Rattle.notes.specs.Countries.{country_same}
 use Rattle.notes.specs.Sets.{member}
 use Rattle.notes.specs.Windows.{clock_admits, window_admits}
-use Rattle.notes.specs.declared.block.Address.{Address}
-use Rattle.notes.specs.declared.country.Country.{Country}
-use Rattle.admission.specs.Misreadings.{DayAndWeekday, some_context, OneContext}
+use Rattle.admission.specs.Misreadings.{DayAndWeekday, OneContext}
 
 pub day_and_weekday : DayAndWeekday
 day_and_weekday w t a =
@@ -28,7 +25,7 @@ one_passes p (x ∷ xs) e =
     ⊎_elim (λ h. (0, omega arith, λ d. h)) (λ h. let z = one_passes p xs h in (suc z.0, omega (arith, z.1), z.2)) (or_true (p x) _ e)
 
 pub one_context : OneContext
-unfolding list_admits
+unfolding list_admits_option
 one_context [] t a k there e = absurd (omega arith)
 one_context (c ∷ cs) t a k there e =
     let z = one_passes (λ c. context_admits c t a k) (c ∷ cs) e in (
@@ -36,7 +33,7 @@ one_context (c ∷ cs) t a k there e =
       z.1,
       λ d.
           let x = get_or (c ∷ cs) z.0 d in
-          let w = both_true (list_admits window_admits x.windows (Some t)) _ (z.2 d) in
-          let b = both_true (list_admits block_admits x.blocks a) (list_admits country_same x.countries k) w.1 in
+          let w = both_true (list_admits_option window_admits x.windows (Some t)) _ (z.2 d) in
+          let b = both_true (list_admits_option block_admits x.blocks a) (list_admits_option country_same x.countries k) w.1 in
           (w.0, b.0, b.1),
     )

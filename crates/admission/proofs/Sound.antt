@@ -1,12 +1,11 @@
 -- What covers another admits at least as much. Assumes nothing.
-use Rattle.std.proofs.Common.{◌≡◌, ℕ, Bool, true, false, not, ◌&&◌, ◌||◌, eqb, ltb, ◌≢◌, List, [], ◌∷◌, ◌++◌, length, Some, Option, sym, refl, ap, ◌∙◌, ⊎_elim, arith}
+use Rattle.std.proofs.Common.{◌≡◌, ℕ, Bool, true, false, not, ◌||◌, eqb, ltb, ◌≢◌, List, [], ◌∷◌, ◌++◌, length, Some, Option, sym, refl, ap, ◌∙◌, ⊎_elim, arith}
 use borrow.Author.Tests.{clash}
-use Rattle.std.specs.List.{AllByRecursion as All}
 use Rattle.std.proofs.ByRecursion.{All-push}
 use Rattle.calendar.specs.Civil.{civil_of}
 use Rattle.texts.specs.Covering.{short}
 use Rattle.texts.specs.Lists.{some, each}
-use Rattle.texts.specs.Matching.{matches, in_domain}
+use Rattle.texts.specs.Matching.{in_domain}
 use Rattle.texts.specs.Texts.{full, domain}
 use Rattle.texts.proofs.Bools.{both_true, and_true, or_true, or_left, or_right}
 use Rattle.texts.proofs.Fronts.{domain_starless}
@@ -14,11 +13,11 @@ use Rattle.texts.proofs.Prefixes.{Starless, begins_matched, matches_through}
 use Rattle.members.specs.Pairs.{Pairs, LacksNone}
 use Rattle.texts.specs.Same.{same}
 use Rattle.texts.proofs.Sames.{same_is}
-use Rattle.notes.specs.Constraints.{list_admits, list_covers}
-use Rattle.notes.specs.Contexts.{ContextValue, context_covers, context_lawful}
+use Rattle.notes.specs.Constraints.{list_covers}
+use Rattle.notes.specs.Contexts.{ContextValue, context_covers}
 use Rattle.notes.specs.Operations.{operation_number, has_operation}
 use Rattle.notes.specs.Originators.{OriginatorValue, length_lawful, text_lawful, is_byte, originator_lawful}
-use Rattle.notes.specs.Rules.{RuleValue, same_side, counts_lawful, type_lawful, rule_lawful}
+use Rattle.notes.specs.Rules.{RuleValue, same_side, counts_lawful, rule_lawful}
 use Rattle.notes.specs.Sets.{contains}
 use Rattle.notes.specs.declared.operation.Operation.{Operation}
 use Rattle.notes.specs.declared.operation.Operation.TheVariants.{Create, Retrieve, Update, Delete, Discover, Notify}

@@ -3,12 +3,12 @@ use Rattle.std.proofs.Common.{refl}
 use Rattle.calendar.specs.Civil.{civil_of}
 use Rattle.calendar.specs.Gregorian.{month_length, first_day, month_from, month_of}
 use Rattle.texts.specs.Matching.{further, matches}
-use Rattle.notes.specs.Constraints.{list_admits}
+use Rattle.notes.specs.Constraints.{list_admits_option}
 use Rattle.admission.specs.Examples.{Midnight, BlockExample, MatchingExample}
 use Rattle.admission.specs.Misreadings.{MayDay, TwoContexts}
 
 pub midnight : Midnight
-unfolding list_admits civil_of month_of month_from first_day month_length
+unfolding list_admits_option civil_of month_of month_from first_day month_length
 midnight = (refl, refl, refl, refl)
 
 pub block_example : BlockExample
@@ -23,5 +23,5 @@ unfolding civil_of month_of month_from first_day month_length
 may_day = (refl, refl, refl)
 
 pub two_contexts_apart : TwoContexts
-unfolding list_admits civil_of month_of month_from first_day month_length
+unfolding list_admits_option civil_of month_of month_from first_day month_length
 two_contexts_apart = (refl, refl)

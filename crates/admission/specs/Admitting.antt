@@ -5,7 +5,7 @@ use Rattle.texts.specs.Lists.{some}
 use Rattle.texts.specs.Matching.{matches, in_domain}
 use Rattle.texts.specs.Texts.{full}
 use Rattle.members.specs.Pairs.{Pairs}
-use Rattle.notes.specs.Constraints.{list_admits}
+use Rattle.notes.specs.Constraints.{list_admits_option}
 use Rattle.notes.specs.Contexts.{ContextValue, context_admits}
 use Rattle.notes.specs.Operations.{has_operation}
 use Rattle.notes.specs.Originators.{OriginatorValue}
@@ -29,7 +29,7 @@ originator_matches home pairs identity o = kind_matches o.kind home pairs identi
 
 -- Create: the rule has no child types, or the request's type is one of them; the other operations look at no type
 abbrev pub types_admit : Operation → List ℕ → Option ℕ → Bool
-types_admit Create types t = list_admits nat_eq types t
+types_admit Create types t = list_admits_option nat_eq types t
 types_admit Retrieve types t = true
 types_admit Update types t = true
 types_admit Delete types t = true
@@ -41,7 +41,7 @@ in_context c q = context_admits c (civil_of q.instant) q.address q.country
 
 -- no contexts, or one context admits
 abbrev pub contexts_admit : List ContextValue → RequestValue → Bool
-contexts_admit cs q = list_admits in_context cs (Some q)
+contexts_admit cs q = list_admits_option in_context cs (Some q)
 
 -- the rule's flag is off or the request is authenticated, the operation is in the set, and the child type is in order
 abbrev pub rule_is_for : RuleValue → RequestValue → Bool

@@ -4,7 +4,7 @@ use Rattle.calendar.specs.Civil.{civil_of}
 use Rattle.texts.specs.Matching.{matches}
 use Rattle.texts.specs.Texts.{full}
 use Rattle.notes.specs.Blocks.{block_admits, block_covers}
-use Rattle.notes.specs.Constraints.{list_admits}
+use Rattle.notes.specs.Constraints.{list_admits_option}
 use Rattle.notes.specs.Windows.{window_admits}
 use Rattle.notes.specs.declared.block.Block.{Block}
 use Rattle.notes.specs.declared.family.Family.TheVariants.{Four}
@@ -24,10 +24,10 @@ over_midnight = daily 0b10 0x1fffffffffff ∷ daily 0b1 0xfffffffffffffff ∷ da
 -- 22:15:00 and 0:29:59, and neither 22:14:59 nor 0:30:00
 abbrev pub Midnight : Type 0
 Midnight =
-    (list_admits window_admits over_midnight (Some (civil_of 80100)) ≡ true)
-    × (list_admits window_admits over_midnight (Some (civil_of 1799)) ≡ true)
-    × (list_admits window_admits over_midnight (Some (civil_of 80099)) ≡ false)
-    × (list_admits window_admits over_midnight (Some (civil_of 1800)) ≡ false)
+    (list_admits_option window_admits over_midnight (Some (civil_of 80100)) ≡ true)
+    × (list_admits_option window_admits over_midnight (Some (civil_of 1799)) ≡ true)
+    × (list_admits_option window_admits over_midnight (Some (civil_of 80099)) ≡ false)
+    × (list_admits_option window_admits over_midnight (Some (civil_of 1800)) ≡ false)
 
 -- 88.77.0.0/16
 abbrev pub network : Block

@@ -3,7 +3,7 @@ use Rattle.std.specs.Prelude.{◌≡◌, ℕ, ◌-◌, ◌<◌, Bool, true, fals
 use Rattle.calendar.specs.Civil.{civil_of}
 use Rattle.calendar.specs.declared.civil.CivilTime.{CivilTime}
 use Rattle.notes.specs.Blocks.{block_admits}
-use Rattle.notes.specs.Constraints.{list_admits}
+use Rattle.notes.specs.Constraints.{list_admits_option}
 use Rattle.notes.specs.Contexts.{ContextValue, context_admits}
 use Rattle.notes.specs.Countries.{country_same}
 use Rattle.notes.specs.Sets.{member}
@@ -34,7 +34,7 @@ MayDay =
 
 -- one of the contexts admits, or there is none
 abbrev pub some_context : List ContextValue → CivilTime → Option Address → Option Country → Bool
-some_context cs t a k = list_admits (λ c (_ : Unit {0}). context_admits c t a k) cs (Some tt)
+some_context cs t a k = list_admits_option (λ c (_ : Unit {0}). context_admits c t a k) cs (Some tt)
 
 -- a time of one context joined to an address of another: where contexts admit, one of them admits the time, the address
 -- and the country
@@ -44,9 +44,9 @@ OneContext =
     → some_context cs t a k ≡ true
     → (i : ℕ) × (i < length cs)
     × ((d : ContextValue) →
-    (list_admits window_admits (slice_index_or cs i d).windows (Some t) ≡ true)
-    × (list_admits block_admits (slice_index_or cs i d).blocks a ≡ true)
-    × (list_admits country_same (slice_index_or cs i d).countries k ≡ true))
+    (list_admits_option window_admits (slice_index_or cs i d).windows (Some t) ≡ true)
+    × (list_admits_option block_admits (slice_index_or cs i d).blocks a ≡ true)
+    × (list_admits_option country_same (slice_index_or cs i d).countries k ≡ true))
 
 -- hour 22 from 88.77.0.0/16, and hour 4 from 116.27.123.0/24
 abbrev pub two_contexts : List ContextValue

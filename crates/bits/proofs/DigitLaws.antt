@@ -1,5 +1,5 @@
 -- The laws of `digits`, of `bits` and of the number that digits spell. Assumes nothing.
-use Rattle.std.proofs.Common.{◌≡◌, ℕ, zero, suc, ◌+◌, ◌-◌, ◌*◌, ◌/◌, ◌%◌, ◌^◌, ◌<◌, ◌≤◌, List, [], ◌∷◌, ◌++◌, length, get_or, take, drop, sym, refl, ap, ◌∙◌, append_assoc, append-nil, add_assoc, mul_assoc, add-mul, add_comm, suc-add, zero-add, zero-mul, one-add, arith, length-append, length-take-le, drop-drop, drop_at, pow-add, shr-shr}
+use Rattle.std.proofs.Common.{◌≡◌, ℕ, zero, suc, ◌+◌, ◌*◌, ◌/◌, ◌%◌, ◌^◌, ◌<◌, ◌≤◌, List, [], ◌∷◌, ◌++◌, length, get_or, take, drop, sym, refl, ap, ◌∙◌, append_assoc, append-nil, add_assoc, mul_assoc, add-mul, add_comm, suc-add, zero-add, zero-mul, one-add, arith, length-append, length-take-le, drop-drop, drop_at, pow-add, shr-shr}
 use lib.Pow.{high, mod-pow-add, field, mod-mod-pow}
 use Rattle.std.specs.Int.Digits.{number_from_digits, number_from_digits_after, AllBelowBase}
 use Rattle.std.proofs.lemmas.Int.Digits.{number_lt, number_after_append}

@@ -1,9 +1,9 @@
 -- Where no word stands that reads as its kind. Assumes nothing.
-use Rattle.std.proofs.Common.{◌≡◌, ℕ, ◌<◌, List, [], length, Ok, Err, Result, refl, subst, arith, Bor, rules}
+use Rattle.std.proofs.Common.{◌≡◌, ℕ, ◌<◌, List, [], length, Ok, Err, subst, arith, Bor, rules}
 use Rattle.journal.specs.declared.unreadable.Field.{Field}
 use Rattle.journal.specs.declared.unreadable.Unreadable.{Unreadable}
 use Rattle.journal.specs.declared.unreadable.Unreadable.TheVariants.{Other}
-use Rattle.journal.specs.Fields.{fault, Took, TookWord, Itself}
+use Rattle.journal.specs.Fields.{fault, Took, TookWord}
 
 module _ {X : Type 0} (reads : List ℕ → X → Type 0) (field : Field) (before : List (List ℕ)) where
   -- no word is left, or the next is empty, and nothing reads from that
@@ -16,8 +16,3 @@ module _ {X : Type 0} (reads : List ℕ → X → Type 0) (field : Field) (befor
       let is = taken.0 in
       let told : Other field ≡ fault field before = search rules in
       (told, λ word rest x e h. let same : word ≡ text.now = cc in never x (subst (λ w. reads w x) same h))
-
--- any word but an empty one reads as itself
-pub itself : (field : Field) (before : List (List ℕ)) (r : Result (Bor (List ℕ)) Unreadable) (after : List (List ℕ)) → TookWord field before r after → Took Itself field before r after
-itself field before (Ok text) after taken = (text.now, taken.0, (refl, taken.1))
-itself field before (Err e) after taken = (taken.0, λ word rest x is h. omega (arith, taken.1 word rest is, h.1))

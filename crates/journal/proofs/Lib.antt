@@ -1,7 +1,5 @@
 mod Calls
 mod Decimals
-mod Faults
 mod Fields
 mod Noted
 mod Pieces
-mod Runs

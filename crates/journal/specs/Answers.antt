@@ -1,16 +1,18 @@
--- What the calls are answered, one by one. Assumes nothing.
-use Rattle.std.specs.Prelude.{◌≡◌, ℕ, cond, List, take, Some, None, Ok, Err, Option, Result, nat_le}
+-- What a call is answered. Assumes nothing.
+use Rattle.std.specs.Prelude.{◌≡◌, ℕ, cond, ◌⊎◌, List, take, Ok, Err, Result, nat_le}
 use Rattle.bits.specs.declared.fault.Layer.TheVariants.{Register}
 use Rattle.bits.specs.declared.fault.Report.{Report}
 use Rattle.calendar.specs.Civil.{civil_of, last_second}
-use Rattle.admission.specs.Covering.{rule_covers}
 use Rattle.notes.specs.declared.rule.Rule.{Rule}
 use Rattle.notes.specs.Notes.{rule_value}
 use Rattle.notes.specs.Rules.{RuleValue, note_reads}
 use Rattle.journal.specs.declared.answer.Answer.{Answer}
-use Rattle.journal.specs.declared.answer.Answer.TheVariants.{Refused, Civil, Rule as RuleRead, Note, Covers, Unreadable}
-use Rattle.journal.specs.declared.unreadable.Unreadable.TheVariants.{NoRegister}
+use Rattle.journal.specs.declared.answer.Answer.TheVariants.{Refused, Civil, Rule as RuleRead, Note, Unreadable}
+use Rattle.journal.specs.declared.call.Call.{Call}
+use Rattle.journal.specs.declared.call.Call.TheVariants.{When, Read, Write}
+use Rattle.journal.specs.declared.unreadable.Unreadable.{Unreadable as Fault}
 use Rattle.journal.specs.declared.written.Written.{Written}
+use Rattle.journal.specs.Calls.{Spells, ReadsLine}
 
 -- the calendar's reading of an instant, or refusal 14 past its last second
 abbrev pub when_answer : ℕ → Answer
@@ -30,13 +32,12 @@ abbrev pub WriteAnswer : Result RuleValue Report → List ℕ → Answer → Typ
 WriteAnswer (Ok value) note r = (w : Written) × (r ≡ Note w) × (written w ≡ note)
 WriteAnswer (Err report) note r = r ≡ Refused report
 
--- what a home domain, and the readings of two notes, answer to `cover`: the first refusal, or whether the rule covers the other
-abbrev pub compared : List ℕ → Result RuleValue Report → Result RuleValue Report → Answer
-compared home (Err report) second = Refused report
-compared home (Ok rule) (Err report) = Refused report
-compared home (Ok rule) (Ok other) = Covers (rule_covers home rule other)
+-- what a call is answered
+abbrev pub Answered : Call → Answer → Type 0
+Answered (When n) r = r ≡ when_answer n
+Answered (Read note) r = ReadAnswer (note_reads note.now) r
+Answered (Write note) r = WriteAnswer (note_reads note.now) note.now r
 
--- where a register with this home domain is open; else there is nothing to tell
-abbrev pub cover_answer : Option (List ℕ) → List ℕ → List ℕ → Answer
-cover_answer None first second = Unreadable NoRegister
-cover_answer (Some home) first second = compared home (note_reads first) (note_reads second)
+-- the words of the line spell a call, and it is answered; or they spell none, and the line is unreadable
+abbrev pub Replied : List (List ℕ) → Answer → Type 0
+Replied line r = ((call : Call) × Spells line call × Answered call r) ⊎ ((fault : Fault) × (r ≡ Unreadable fault) × ReadsLine line (Err fault))

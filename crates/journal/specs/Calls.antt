@@ -6,19 +6,17 @@ use Rattle.journal.specs.declared.call.Call.TheVariants as call
 use Rattle.journal.specs.declared.name.CallName.{CallName}
 use Rattle.journal.specs.declared.name.CallName.TheVariants.{Open, Add, Withdraw, Link, Unlink, Member, Present, Clear, Leave, Readmit, Judge, Role, Request, Read, Write, Cover, When}
 use Rattle.journal.specs.declared.unreadable.Kind.{Kind}
-use Rattle.journal.specs.declared.unreadable.Kind.TheVariants.{Name, Instant, Home, TableLength, Note, End}
+use Rattle.journal.specs.declared.unreadable.Kind.TheVariants.{Name, Instant, Note, End}
 use Rattle.journal.specs.declared.unreadable.Unreadable.{Unreadable}
 use Rattle.journal.specs.declared.unreadable.Unreadable.TheVariants.{NotServed}
-use Rattle.journal.specs.Fields.{field_at, fault, Stands, FaultAt, Itself}
+use Rattle.journal.specs.Fields.{field_at, fault, FaultAt}
 use Rattle.journal.specs.Names.{spelling}
 use Rattle.journal.specs.Notes.{Noted}
-use Rattle.journal.specs.Numbers.{Decimal, Length}
+use Rattle.journal.specs.Numbers.{Decimal}
 
 -- the words after the name, and no others, make the call; none do where the name is not served
 abbrev pub Makes : CallName → List (List ℕ) → Call → Type 0
-Makes Open words c =
-    (text : List ℕ) × (home : Bor (List ℕ)) × (length : List ℕ) × (rows : ℕ) × (other : List ℕ) × (targets : ℕ)
-    × (words ≡ text ∷ length ∷ other ∷ []) × Itself text home × Length length rows × Length other targets × (c ≡ call.Open home rows targets)
+Makes Open words c = ⊥
 Makes Add words c = ⊥
 Makes Withdraw words c = ⊥
 Makes Link words c = ⊥
@@ -33,9 +31,7 @@ Makes Role words c = ⊥
 Makes Request words c = ⊥
 Makes Read words c = (word : List ℕ) × (note : Bor (List ℕ)) × (words ≡ word ∷ []) × Noted word note × (c ≡ call.Read note)
 Makes Write words c = (word : List ℕ) × (note : Bor (List ℕ)) × (words ≡ word ∷ []) × Noted word note × (c ≡ call.Write note)
-Makes Cover words c =
-    (word : List ℕ) × (first : Bor (List ℕ)) × (other : List ℕ) × (second : Bor (List ℕ))
-    × (words ≡ word ∷ other ∷ []) × Noted word first × Noted other second × (c ≡ call.Cover first second)
+Makes Cover words c = ⊥
 Makes When words c = (instant : List ℕ) × (n : ℕ) × (words ≡ instant ∷ []) × Decimal instant n × (c ≡ call.When n)
 
 -- the words of the line are a name, and words that make its call
@@ -44,7 +40,7 @@ Spells line c = (name : CallName) × (words : List (List ℕ)) × (line ≡ spel
 
 -- what is expected after the name; nothing where the name is not served
 abbrev pub layout : CallName → List Kind
-layout Open = Home ∷ TableLength ∷ TableLength ∷ End ∷ []
+layout Open = []
 layout Add = []
 layout Withdraw = []
 layout Link = []
@@ -59,7 +55,7 @@ layout Role = []
 layout Request = []
 layout Read = Note ∷ End ∷ []
 layout Write = Note ∷ End ∷ []
-layout Cover = Note ∷ Note ∷ End ∷ []
+layout Cover = []
 layout When = Instant ∷ End ∷ []
 
 -- why the words after the name make no call
@@ -74,7 +70,4 @@ ReadsCall name words (Err e) = ((c : Call) → Makes name words c → ⊥) × Fa
 -- the call that the words of the line spell, and an error where they spell none
 abbrev pub ReadsLine : List (List ℕ) → Result Call Unreadable → Type 0
 ReadsLine line (Ok c) = Spells line c
-ReadsLine line (Err e) =
-    ((c : Call) → Spells line c → ⊥)
-    × (((e ≡ fault (field_at 1 Name) line) × ((words : List (List ℕ)) → Stands Name line words → ⊥))
-    ⊎ ((name : CallName) × (words : List (List ℕ)) × (line ≡ spelling name ∷ words) × Faulty name words e))
+ReadsLine line (Err e) = ((c : Call) → Spells line c → ⊥) × ((e ≡ fault (field_at 1 Name) line) ⊎ ((name : CallName) × (words : List (List ℕ)) × (line ≡ spelling name ∷ words) × Faulty name words e))

@@ -1,15 +1,12 @@
 -- The words of a call, one by one. Assumes nothing.
-use Rattle.std.specs.Prelude.{◌≡◌, ℕ, ◌+◌, ◌<◌, cond, ◌⊎◌, List, [], ◌∷◌, length, Ok, Err, Result, ◌==◌, ◌≢◌}
+use Rattle.std.specs.Prelude.{◌≡◌, ℕ, ◌+◌, ◌<◌, cond, ◌⊎◌, List, [], ◌∷◌, length, drop, Ok, Err, Result, ◌==◌, ◌≢◌}
 use Rattle.std.specs.Borrow.{Bor}
 use Rattle.journal.specs.declared.name.CallName.{CallName}
 use Rattle.journal.specs.declared.unreadable.Field.{Field}
 use Rattle.journal.specs.declared.unreadable.Kind.{Kind}
-use Rattle.journal.specs.declared.unreadable.Kind.TheVariants.{Name, Instant, Home, TableLength, Note, End}
 use Rattle.journal.specs.declared.unreadable.Unreadable.{Unreadable}
 use Rattle.journal.specs.declared.unreadable.Unreadable.TheVariants.{Missing, Empty, Other}
 use Rattle.journal.specs.Names.{spelling}
-use Rattle.journal.specs.Notes.{Noted}
-use Rattle.journal.specs.Numbers.{Decimal, Length}
 
 -- what is expected of the word at a place
 abbrev pub field_at : ℕ → Kind → Field
@@ -35,30 +32,11 @@ abbrev pub Ended : Field → List (List ℕ) → Result Unit Unreadable → Type
 Ended field words (Ok x) = words ≡ []
 Ended field words (Err e) = (e ≡ fault field words) × (words ≢ [])
 
+-- the fault is that of one of the words from a place on, which are expected to be of these kinds
+abbrev pub FaultAt : ℕ → List Kind → List (List ℕ) → Unreadable → Type 0
+FaultAt place [] words e = ⊥
+FaultAt place (kind ∷ kinds) words e = (e ≡ fault (field_at place kind) words) ⊎ FaultAt (place + 1) kinds (drop 1 words) e
+
 -- the word is the name's spelling
 abbrev pub Named : List ℕ → CallName → Type 0
 Named word name = word ≡ spelling name
-
--- the word is taken as it is, and is not empty
-abbrev pub Itself : List ℕ → Bor (List ℕ) → Type 0
-Itself word text = (text.now ≡ word) × (0 < length word)
-
--- the first of the words reads as something, and the others follow it
-abbrev pub First : {X : Type 0} → (List ℕ → X → Type 0) → List (List ℕ) → List (List ℕ) → Type 0
-First {X} reads words rest = (word : List ℕ) × (x : X) × (words ≡ word ∷ rest) × reads word x
-
--- what is expected stands first among the words, and the rest follow it
-abbrev pub Stands : Kind → List (List ℕ) → List (List ℕ) → Type 0
-Stands Name words rest = First Named words rest
-Stands Instant words rest = First Decimal words rest
-Stands Home words rest = First Itself words rest
-Stands TableLength words rest = First Length words rest
-Stands Note words rest = First Noted words rest
-Stands End words rest = (words ≡ []) × (rest ≡ [])
-
--- the fault is that of the first of the words, from a place on, that is not what is expected there
-abbrev pub FaultAt : ℕ → List Kind → List (List ℕ) → Unreadable → Type 0
-FaultAt place [] words e = ⊥
-FaultAt place (kind ∷ kinds) words e =
-    ((e ≡ fault (field_at place kind) words) × ((rest : List (List ℕ)) → Stands kind words rest → ⊥))
-    ⊎ ((rest : List (List ℕ)) × Stands kind words rest × FaultAt (place + 1) kinds rest e)

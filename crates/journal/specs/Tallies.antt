@@ -1,7 +1,7 @@
 -- The counts of a journal. Assumes nothing.
 use Rattle.std.specs.Prelude.{ℕ, ◌+◌, ◌-◌, ◌^◌, min}
 use Rattle.journal.specs.declared.answer.Answer.{Answer}
-use Rattle.journal.specs.declared.answer.Answer.TheVariants.{Accepted, Refused, Civil, Rule, Note, Covers, Unreadable}
+use Rattle.journal.specs.declared.answer.Answer.TheVariants.{Refused, Civil, Rule, Note, Unreadable}
 use Rattle.journal.specs.declared.tally.Tally.{Tally}
 
 abbrev pub zeros : Tally
@@ -13,10 +13,8 @@ raised n = min (n + 1) (2 ^ 64 - 1)
 
 -- every answer counts as a call, and in the count of its own kind if it has one
 abbrev pub counted : Answer → Tally → Tally
-counted Accepted t = record { calls = raised t.calls; accepted = raised t.accepted; refused = t.refused; permitted = t.permitted; denied = t.denied; unreadable = t.unreadable }
 counted (Refused r) t = record { calls = raised t.calls; accepted = t.accepted; refused = raised t.refused; permitted = t.permitted; denied = t.denied; unreadable = t.unreadable }
 counted (Civil c) t = record { calls = raised t.calls; accepted = t.accepted; refused = t.refused; permitted = t.permitted; denied = t.denied; unreadable = t.unreadable }
 counted (Rule u) t = record { calls = raised t.calls; accepted = t.accepted; refused = t.refused; permitted = t.permitted; denied = t.denied; unreadable = t.unreadable }
 counted (Note w) t = record { calls = raised t.calls; accepted = t.accepted; refused = t.refused; permitted = t.permitted; denied = t.denied; unreadable = t.unreadable }
-counted (Covers b) t = record { calls = raised t.calls; accepted = t.accepted; refused = t.refused; permitted = t.permitted; denied = t.denied; unreadable = t.unreadable }
 counted (Unreadable u) t = record { calls = raised t.calls; accepted = t.accepted; refused = t.refused; permitted = t.permitted; denied = t.denied; unreadable = raised t.unreadable }

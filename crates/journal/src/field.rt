@@ -1,19 +1,16 @@
 // The readers of the words of a call, one for each kind of word.
 ghost use Rattle.std.specs.Prelude.{length};
-ghost use Rattle.journal.specs.Fields.{field_at, Took, TookWord, Named, Itself, Ended};
-ghost use Rattle.journal.specs.declared.unreadable.Kind.TheVariants.{Name, Instant, Home, TableLength, Note, End};
+ghost use Rattle.journal.specs.Fields.{field_at, Took, TookWord, Named, Ended};
+ghost use Rattle.journal.specs.declared.unreadable.Kind.TheVariants.{Name, Instant, Note, End};
 ghost use Rattle.journal.specs.Notes.{Noted};
-ghost use Rattle.journal.specs.Numbers.{Decimal, Length};
+ghost use Rattle.journal.specs.Numbers.{Decimal};
 ghost use Rattle.journal.specs.Words.{left, Within};
 
 use crate::name::CallName;
 use crate::note;
-use crate::number::{decimal, decimal_up_to};
+use crate::number::decimal;
 use crate::unreadable::{Field, Kind, Unreadable};
 use crate::words::Words;
-
-// The longest table that a register may have.
-const MAX_TABLE_LENGTH: u32 = 100_000;
 
 // The name of the call, which is the first word.
 pub fn name(words: &mut Words<'_>) -> Result<CallName, Unreadable>
@@ -40,32 +37,6 @@ pub fn instant(words: &mut Words<'_>, place: u8) -> Result<u32, Unreadable>
     };
     let word = next_word(words, field)?;
     match decimal(word) {
-        Some(number) => Ok(number),
-        None => Err(Unreadable::Other(field)),
-    }
-}
-
-// A home domain, not yet tested for being lawful.
-pub fn home<'a>(words: &mut Words<'a>, place: u8) -> Result<&'a [u8], Unreadable>
-    ensures { Took Itself (field_at place Home) (left words.old) result (left words.new) }
-{
-    let field = Field {
-        place,
-        kind: Kind::Home,
-    };
-    next_word(words, field)
-}
-
-// The length of a table of the register.
-pub fn table_length(words: &mut Words<'_>, place: u8) -> Result<u32, Unreadable>
-    ensures { Took Length (field_at place TableLength) (left words.old) result (left words.new) }
-{
-    let field = Field {
-        place,
-        kind: Kind::TableLength,
-    };
-    let word = next_word(words, field)?;
-    match decimal_up_to(word, MAX_TABLE_LENGTH) {
         Some(number) => Ok(number),
         None => Err(Unreadable::Other(field)),
     }

@@ -10,7 +10,6 @@ mod note;
 mod number;
 mod replay;
 mod report;
-mod state;
 mod tally;
 mod unreadable;
 mod words;

@@ -1,6 +1,6 @@
 // Numbers as words write them.
 ghost use Rattle.std.specs.Prelude.{ℕ, ◌+◌, ◌*◌, ◌^◌, ◌<◌, MatchOption};
-ghost use Rattle.journal.specs.Numbers.{Decimal, UpTo};
+ghost use Rattle.journal.specs.Numbers.{Decimal};
 ghost use Rattle.std.specs.Option.{SomeIff};
 ghost use Rattle.std.specs.Char.{digit_value};
 
@@ -14,17 +14,6 @@ pub fn decimal(word: &[u8]) -> Option<u32>
     let mut number: u32 = 0;
     for byte in word {
         number = push_digit(number, *byte)?;
-    }
-    Some(number)
-}
-
-// The number that the word writes in decimal, if it is at most `most`.
-pub fn decimal_up_to(word: &[u8], most: u32) -> Option<u32>
-    ensures { MatchOption result ((n : ℕ) → UpTo most word.now n → ⊥) (λ n. UpTo most word.now n) }
-{
-    let number = decimal(word)?;
-    if number > most {
-        return None;
     }
     Some(number)
 }

@@ -1,11 +1,8 @@
 // The replay of a journal, line by line.
-ghost use Rattle.std.specs.Prelude.{◌≡◌, ℕ, ◌≤◌, true, List, is_ok, None, vec_len};
-ghost use Rattle.journal.specs.Replies.{open_home};
-ghost use Rattle.journal.specs.Runs.{Stepped, Replayed};
-ghost use Rattle.journal.specs.Tallies.{zeros};
+ghost use Rattle.std.specs.Prelude.{◌≡◌, ◌≤◌, true, is_ok, vec_len};
 
+use crate::answer::Answer;
 use crate::line::{LineKind, kind_of, without_line_feed};
-use crate::state::State;
 use crate::tally::Tally;
 use std::alloc::Global;
 use std::io;
@@ -21,34 +18,25 @@ pub enum Stopped {
 #[derive(Drop)]
 pub struct Replay<W> {
     out: W,
-    state: State,
     tally: Tally,
     // The line that is read, kept so that its memory serves every line.
     line: Vec<u8>,
-    // Space for the bytes of the notes on the line, of which there are two at most.
+    // Space for the bytes of a note on the line.
     note: Vec<u8>,
-    other_note: Vec<u8>,
 }
 
 impl<W: Write> Replay<W> {
-    pub fn new(heap: Global, out: W) -> Replay<W>
-        ensures state { open_home result.state ≡ None }
-        ensures tally { result.tally ≡ zeros }
-    {
+    pub fn new(heap: Global, out: W) -> Replay<W> {
         Replay {
             out,
-            state: State::new(),
             tally: Tally::new(),
             line: Vec::new(heap),
             note: Vec::new(heap),
-            other_note: Vec::new(heap),
         }
     }
 
     // Answers each line of the source, to its end.
-    pub fn read_all<R: BufRead>(&mut self, source: &mut R) -> Result<(), Stopped>
-        ensures { is_ok result ≡ true → ((lines : List (List ℕ)) × Replayed lines self.old.state self.old.tally self.new.state self.new.tally) }
-    {
+    pub fn read_all<R: BufRead>(&mut self, source: &mut R) -> Result<(), Stopped> {
         // No source has so many lines: the bound is there since nothing says that a source ends.
         for _ in 0..u64::MAX {
             match self.read_line(source) {
@@ -63,34 +51,24 @@ impl<W: Write> Replay<W> {
         Ok(())
     }
 
-    // Reads the next line, if there is one, and makes space for its notes, which are no longer.
+    // Reads the next line, if there is one, and makes space for its note, which is no longer.
     fn read_line<R: BufRead>(&mut self, source: &mut R) -> io::Result<bool>
-        ensures first { is_ok result ≡ true → vec_len self.new.line ≤ vec_len self.new.note }
-        ensures second { is_ok result ≡ true → vec_len self.new.line ≤ vec_len self.new.other_note }
-        ensures state { self.new.state ≡ self.old.state }
-        ensures tally { self.new.tally ≡ self.old.tally }
+        ensures { is_ok result ≡ true → vec_len self.new.line ≤ vec_len self.new.note }
     {
         self.line.clear();
         let size = source.read_until(b'\n', &mut self.line)?;
         self.note.resize(self.line.len(), 0)?;
-        self.other_note.resize(self.line.len(), 0)?;
         Ok(size > 0)
     }
 
     // Writes the line that was read, with its answer if it is a call.
     fn answer_line(&mut self) -> io::Result<()>
-        requires space_in_bounds { vec_len self.old.line ≤ vec_len self.old.note }
-        requires other_space_in_bounds { vec_len self.old.line ≤ vec_len self.old.other_note }
-        ensures { is_ok result ≡ true → Stepped self.old.line.items self.old.state self.old.tally self.new.state self.new.tally }
+        requires { vec_len self.old.line ≤ vec_len self.old.note }
     {
         let line = without_line_feed(self.line.as_slice());
         self.out.write_all(line)?;
         if let LineKind::Call = kind_of(line) {
-            let answer = self.state.answer(
-                line,
-                self.note.as_mut_slice(),
-                self.other_note.as_mut_slice(),
-            );
+            let answer = Answer::of_line(line, self.note.as_mut_slice());
             self.tally.count(&answer);
             write!(self.out, " -> {answer}")?;
         }

@@ -36,9 +36,8 @@ impl Tally {
     {
         self.calls = self.calls.saturating_add(1);
         match answer {
-            Answer::Accepted => self.accepted = self.accepted.saturating_add(1),
             Answer::Refused(_) => self.refused = self.refused.saturating_add(1),
-            Answer::Civil(_) | Answer::Rule(_) | Answer::Note(_) | Answer::Covers(_) => {}
+            Answer::Civil(_) | Answer::Rule(_) | Answer::Note(_) => {}
             Answer::Unreadable(_) => self.unreadable = self.unreadable.saturating_add(1),
         }
     }

@@ -7,8 +7,6 @@ use std::fmt;
 pub enum Kind {
     Name,
     Instant,
-    Home,
-    TableLength,
     Note,
     // No word: the line has ended.
     End,
@@ -21,15 +19,13 @@ pub struct Field {
     pub kind: Kind,
 }
 
-// A word is missing, empty or another than the field expects; or the call is known and not served; or it
-// needs an open register, and none is open.
+// A word is missing, empty or another than the field expects, or the call is known and not served.
 #[derive(Clone, Copy)]
 pub enum Unreadable {
     Missing(Field),
     Empty(Field),
     Other(Field),
     NotServed(CallName),
-    NoRegister,
 }
 
 impl fmt::Display for Field {
@@ -38,8 +34,6 @@ impl fmt::Display for Field {
         let kind = match kind {
             Kind::Name => "the name of a call",
             Kind::Instant => "an instant (0 to 4294967295, in digits)",
-            Kind::Home => "a home domain",
-            Kind::TableLength => "a table length (0 to 100000, in digits)",
             Kind::Note => "a note (pairs of hexadecimal digits, or -)",
             Kind::End => "the end of the line",
         };
@@ -54,7 +48,6 @@ impl fmt::Display for Unreadable {
             Unreadable::Empty(field) => write!(f, "{field}, found an empty word"),
             Unreadable::Other(field) => write!(f, "{field}, found another word"),
             Unreadable::NotServed(name) => write!(f, "{name} is not served yet"),
-            Unreadable::NoRegister => f.write_str("no register is open"),
         }
     }
 }

@@ -4,7 +4,7 @@ use Rattle.std.proofs.Math.Path.{refl}
 use Rattle.std.proofs.Common.{ap, ⊎_elim}
 use borrow.Author.Tests.{clash}
 use Rattle.texts.specs.Lists.{some, each, none}
-use Rattle.notes.specs.Constraints.{offered, list_admits, list_covers}
+use Rattle.notes.specs.Constraints.{offered, list_admits, list_admits_option, list_covers}
 use Rattle.texts.proofs.Bools.{both_true, or_true, or_left, or_right}
 
 module _ {X V : Type 0} (admits : X → V → Bool) (covers : X → X → Bool)
@@ -19,8 +19,8 @@ module _ {X V : Type 0} (admits : X → V → Bool) (covers : X → X → Bool)
   each_sound xs (y ∷ ys) v e a =
       let h = both_true _ _ e in ⊎_elim (λ c. some_sound xs y v h.0 c) (λ c. each_sound xs ys v h.1 c) (or_true _ _ a)
 
-  pub list_sound : (xs ys : List X) (v : Option V) → list_covers covers xs ys ≡ true → list_admits admits ys v ≡ true → list_admits admits xs v ≡ true
-  unfolding list_covers list_admits
+  pub list_sound : (xs ys : List X) (v : Option V) → list_covers covers xs ys ≡ true → list_admits_option admits ys v ≡ true → list_admits_option admits xs v ≡ true
+  unfolding list_covers list_admits_option
   list_sound [] ys None c a = refl
   list_sound [] ys (Some v) c a = refl
   list_sound (x ∷ xs) [] v c a = absurd (clash c)
@@ -30,8 +30,8 @@ module _ {X V : Type 0} (admits : X → V → Bool) (covers : X → X → Bool)
 -- what the mark says of a value that is lent beside it
 pub offered_admits :
     {X V : Type 0} (admits : X → V → Bool) (xs : List X) (there : Bool) (v : V)
-    → list_admits admits xs (offered there v) ≡ (none xs || (there && some (λ x. admits x v) xs))
-unfolding list_admits
+    → list_admits_option admits xs (offered there v) ≡ list_admits admits xs there v
+unfolding list_admits list_admits_option
 offered_admits admits xs true v = refl
 offered_admits admits [] false v = refl
 offered_admits admits (x ∷ xs) false v = refl
@@ -49,11 +49,11 @@ none_map : {X Y : Type 0} (f : X → Y) (xs : List X) → none (map f xs) ≡ no
 none_map f [] = refl
 none_map f (x ∷ xs) = refl
 
-pub list_admits_map :
-    {X Y V : Type 0} (admits : Y → V → Bool) (f : X → Y) (xs : List X) (v : Option V) → list_admits admits (map f xs) v ≡ list_admits (λ x. admits (f x)) xs v
-unfolding list_admits
-list_admits_map admits f xs None = none_map f xs
-list_admits_map admits f xs (Some v) = λ i. none_map f xs i || some_map (λ y. admits y v) f xs i
+pub list_admits_option_map :
+    {X Y V : Type 0} (admits : Y → V → Bool) (f : X → Y) (xs : List X) (v : Option V) → list_admits_option admits (map f xs) v ≡ list_admits_option (λ x. admits (f x)) xs v
+unfolding list_admits_option
+list_admits_option_map admits f xs None = none_map f xs
+list_admits_option_map admits f xs (Some v) = λ i. none_map f xs i || some_map (λ y. admits y v) f xs i
 
 pub each_some_map :
     {X Y : Type 0} (covers : Y → Y → Bool) (f g : X → Y) (xs ys : List X)

@@ -7,7 +7,7 @@ use Rattle.texts.specs.Lists.{each}
 use Rattle.notes.specs.Few.{listed}
 use Rattle.notes.specs.Readings.{guard, seq, made, times}
 use Rattle.calendar.specs.declared.civil.CivilTime.{CivilTime}
-use Rattle.notes.specs.Constraints.{list_admits, list_covers}
+use Rattle.notes.specs.Constraints.{list_admits_option, list_covers}
 use Rattle.notes.specs.Windows.{window_lawful, window_form, window_reads, window_admits, window_covers}
 use Rattle.notes.specs.Blocks.{block_lawful, block_form, block_reads, block_admits, block_covers}
 use Rattle.notes.specs.Countries.{country_lawful, country_form, country_reads, country_same}
@@ -61,8 +61,8 @@ context_reads =
 -- missing
 abbrev pub context_admits : ContextValue → CivilTime → Option Address → Option Country → Bool
 context_admits c time address country =
-    list_admits window_admits c.windows (Some time)
-    && (list_admits block_admits c.blocks address && list_admits country_same c.countries country)
+    list_admits_option window_admits c.windows (Some time)
+    && (list_admits_option block_admits c.blocks address && list_admits_option country_same c.countries country)
 
 -- for each kind, the list covers the other's
 abbrev pub context_covers : ContextValue → ContextValue → Bool

@@ -1,13 +1,13 @@
 -- What a constraint covers it admits: child types and contexts. Assumes nothing.
-use Rattle.std.specs.Prelude.{◌≡◌, ℕ, true, Some, Option, ◌==◌, refl}
-use Rattle.std.proofs.Common.{sym, ◌∙◌, eq-eqb, eqb-true}
+use Rattle.std.specs.Prelude.{◌≡◌, ℕ, true, Some, Option, ◌==◌}
+use Rattle.std.proofs.Common.{◌∙◌, eq-eqb, eqb-true}
 use Rattle.calendar.specs.declared.civil.CivilTime.{CivilTime}
 use Rattle.notes.specs.declared.block.Address.{Address}
 use Rattle.notes.specs.declared.country.Country.{Country}
 use Rattle.notes.specs.Windows.{window_admits, window_covers}
 use Rattle.notes.specs.Blocks.{block_admits, block_covers}
 use Rattle.notes.specs.Countries.{country_same}
-use Rattle.notes.specs.Constraints.{list_admits, list_covers}
+use Rattle.notes.specs.Constraints.{list_admits_option, list_covers}
 use Rattle.notes.specs.Contexts.{ContextValue, context_admits, context_covers}
 use Rattle.texts.proofs.Bools.{both_true, and_true}
 use Rattle.notes.specs.ConstraintsLemmas.{list_sound}
@@ -30,8 +30,8 @@ pub context_sound :
 context_sound c d time address country h a =
     let h1 = both_true (list_covers window_covers c.windows d.windows) _ h in
     let h2 = both_true (list_covers block_covers c.blocks d.blocks) (list_covers country_same c.countries d.countries) h1.1 in
-    let a1 = both_true (list_admits window_admits d.windows (Some time)) _ a in
-    let a2 = both_true (list_admits block_admits d.blocks address) (list_admits country_same d.countries country) a1.1 in
+    let a1 = both_true (list_admits_option window_admits d.windows (Some time)) _ a in
+    let a2 = both_true (list_admits_option block_admits d.blocks address) (list_admits_option country_same d.countries country) a1.1 in
     and_true _ _ (list_sound window_admits window_covers window_sound c.windows d.windows (Some time) h1.0 a1.0)
     (and_true _ _ (list_sound block_admits block_covers block_sound c.blocks d.blocks address h2.0 a2.0)
     (list_sound country_same country_same country_sound c.countries d.countries country h2.1 a2.1))

@@ -1,7 +1,7 @@
 // Constraints: packed items that admit values. What holds of lists of them is said and proved once, for every kind.
 ghost use Rattle.std.specs.Prelude.{◌≡◌, Bool, true, List, Option};
 ghost use Rattle.texts.specs.Lists.{some, each};
-ghost use Rattle.notes.specs.Constraints.{offered, list_admits, list_covers};
+ghost use Rattle.notes.specs.Constraints.{offered, list_admits, list_admits_option, list_covers};
 
 use super::packed::Packed;
 
@@ -36,7 +36,8 @@ fn one_admits<C: Constraint>(items: &[C], v: &C::Value) -> bool
 
 // Whether a list admits a value that a request may lack: `there` says whether it has one.
 pub fn list_admits<C: Constraint>(items: &[C], there: bool, v: &C::Value) -> bool
-    ensures { result ≡ list_admits C.admitted items.now (offered there v.now) }
+    ensures marked { result ≡ list_admits C.admitted items.now there v.now }
+    ensures offered { result ≡ list_admits_option C.admitted items.now (offered there v.now) }
 {
     items.is_empty() | (there & one_admits(items, v))
 }
@@ -77,5 +78,6 @@ pub fn constraints_sound<C: Constraint>()
 
 // What covers a list admits what that admits: one argument for every kind of constraint.
 pub fn lists_sound<C: Constraint>()
-    ensures { (xs ys : List C) (v : Option C.Value) → list_covers C.covered xs ys ≡ true → list_admits C.admitted ys v ≡ true → list_admits C.admitted xs v ≡ true }
+    ensures marked { (xs ys : List C) (there : Bool) (v : C.Value) → list_covers C.covered xs ys ≡ true → list_admits C.admitted ys there v ≡ true → list_admits C.admitted xs there v ≡ true }
+    ensures offered { (xs ys : List C) (v : Option C.Value) → list_covers C.covered xs ys ≡ true → list_admits_option C.admitted ys v ≡ true → list_admits_option C.admitted xs v ≡ true }
 {}

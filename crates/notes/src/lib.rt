@@ -33,3 +33,9 @@ pub use packed::Packed;
 pub use refusals::refusals_name_the_first_field;
 pub use rule::{PlainRule, Rule, RuleParts, Side, originator_text};
 pub use window::Window;
+
+// The texts that notes name, for callers of notes alone.
+pub use texts::{
+    Domain, FullForm, Identity, Standing, Unlawful, grammar_of_identities, is_domain, is_pattern,
+    is_standing,
+};

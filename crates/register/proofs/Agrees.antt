@@ -1,5 +1,5 @@
 -- The tables and the book agree after each call. Assumes nothing.
-use Rattle.std.proofs.Common.{◌≡◌, ℕ, zero, suc, ◌+◌, ◌<◌, ◌≤◌, min, Bool, true, false, cond, not, ◌&&◌, ◌||◌, eqb, ltb, List, [], ◌∷◌, length, get_or, take, set, replicate, Some, None, Ok, Err, count_by, filter, Option, Result, sym, refl, ap, ◌∙◌, subst, ⊎_elim, arith, length-set, length-take, get_or-set_other, get_or-take, get_or-set_same}
+use Rattle.std.proofs.Common.{◌≡◌, ℕ, zero, suc, ◌+◌, ◌<◌, ◌≤◌, Bool, true, false, cond, not, ◌&&◌, eqb, ltb, List, ◌∷◌, length, get_or, set, replicate, Some, None, Ok, Err, count_by, Option, Result, sym, refl, ap, ◌∙◌, subst, ⊎_elim, arith, length-set, length-take, get_or-set_other, get_or-take, get_or-set_same}
 use mathlib.Core.Bool.{false≢true}
 use lib.Seq.{take-set-lt}
 use Rattle.std.proofs.lemmas.Bool.{and_parts, cases_Bool, cases_eq, eqb-true, eq-eqb, ne_eqb, ltb-true, ltb-false, lt-ltb}
@@ -7,12 +7,12 @@ use Rattle.bits.specs.declared.fault.Report.{Report}
 use Rattle.notes.specs.Rules.{RuleValue, note_reads}
 use Rattle.register.specs.declared.row.RuleRow.{RuleRow}
 use Rattle.register.specs.declared.target_row.TargetRow.{TargetRow}
-use Rattle.register.specs.Answers.{Opening, Call, add, withdraw, link, unlink, judge, Answer, accepted, refused, permitted, denied, Holdings, stands, too_high, note_refusal, add_refusal, withdraw_refusal, link_refusal, unless_refused, Answers}
+use Rattle.register.specs.Answers.{Opening, Call, add, withdraw, link, unlink, judge, Answer, accepted, refused, permitted, denied, stands, too_high, note_refusal, add_refusal, withdraw_refusal, link_refusal, unless_refused, Answers}
 use Rattle.register.specs.Book.{Book, empty, in_book, unless, entered, struck, marked, noted}
 use Rattle.register.specs.Entries.{Entry, entry_of, is_named, hits, freed}
 use Rattle.register.specs.Faults.{Refusal, plainly}
 use Rattle.register.specs.Requests.{targets_used}
-use Rattle.register.specs.Tables.{Tables, used_rows, opening, is_linked, holdings, Opened, At, with_row, with_link, Holding, After, Served}
+use Rattle.register.specs.Tables.{Tables, used_rows, opening, is_linked, holdings, Opened, At, with_row, with_link, After, Served}
 use Rattle.register.specs.Targets.{unlinked}
 use Rattle.register.proofs.Counts.{count_cons, count_set, count_same, count_split, count_kept}
 

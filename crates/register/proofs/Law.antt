@@ -1,13 +1,13 @@
 -- The law of a season holds. Assumes nothing.
-use Rattle.std.proofs.Common.{◌≡◌, ℕ, ◌<◌, ◌≤◌, Bool, true, false, ◌&&◌, ◌⊎◌, List, [], ◌∷◌, Some, None, Ok, Err, count_by, Option, Result, sym, refl, ap, ◌∙◌, subst, inl, inr, ⊎_elim, arith}
+use Rattle.std.proofs.Common.{◌≡◌, ℕ, ◌≤◌, Bool, true, false, ◌&&◌, ◌⊎◌, List, [], ◌∷◌, Some, None, Ok, Err, count_by, Option, Result, sym, refl, ap, ◌∙◌, subst, inl, inr, arith}
 use Rattle.std.proofs.lemmas.Bool.{and_parts}
 use Rattle.bits.specs.declared.fault.Report.{Report}
-use Rattle.members.specs.Pairs.{Pairs, LacksNone}
+use Rattle.members.specs.Pairs.{Pairs}
 use Rattle.notes.specs.Rules.{RuleValue, note_reads, rule_lawful}
 use Rattle.admission.specs.Covering.{rule_covers}
 use Rattle.register.specs.declared.request.Request.{Request}
 use Rattle.register.specs.Answers.{Opening, Call, add, withdraw, link, unlink, judge, Answer, accepted, refused, permitted, denied, Decision, Judgement, add_refusal, link_refusal, Answers}
-use Rattle.register.specs.Book.{Book, in_book, unless, entered, marked, book, book_count}
+use Rattle.register.specs.Book.{Book, in_book, entered, marked, book}
 use Rattle.register.specs.Entries.{Entry, entry_of, is_named}
 use Rattle.register.specs.Faults.{Refusal}
 use Rattle.register.specs.Requests.{request_value, request_refusal, counts}

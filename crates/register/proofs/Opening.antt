@@ -1,10 +1,9 @@
 -- A register whose tables were cleared is just opened. Assumes nothing.
-use Rattle.std.proofs.Common.{◌≡◌, ℕ, zero, suc, ◌+◌, ◌<◌, min, Bool, List, [], ◌∷◌, ◌++◌, map, length, get_or, take, drop, count_by, sym, refl, ap, ◌∙◌, arith, length-append, length-take}
+use Rattle.std.proofs.Common.{◌≡◌, ℕ, zero, suc, ◌<◌, min, Bool, List, [], ◌∷◌, ◌++◌, map, length, get_or, take, drop, count_by, refl, ap, ◌∙◌, arith}
 use Rattle.register.specs.declared.row.RuleRow.{RuleRow}
 use Rattle.register.specs.declared.target_row.TargetRow.{TargetRow}
-use Rattle.register.specs.Answers.{Opening}
 use Rattle.register.specs.Entries.{Entry, hits, freed}
-use Rattle.register.specs.Tables.{Tables, opening, Cleared, Opened}
+use Rattle.register.specs.Tables.{Tables, Cleared, Opened}
 use Rattle.register.specs.Targets.{unlinked}
 use Rattle.register.proofs.Counts.{count_cons}
 

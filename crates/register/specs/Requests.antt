@@ -1,5 +1,5 @@
 -- Requests to the register. Assumes nothing.
-use Rattle.std.specs.Prelude.{ℕ, min, Bool, true, cond, not, ◌&&◌, List, Some, None, Option, ◌==◌, nat_le, nat_lt}
+use Rattle.std.specs.Prelude.{ℕ, min, Bool, cond, ◌&&◌, List, Some, None, Option, ◌==◌, nat_le, nat_lt}
 use Rattle.calendar.specs.Civil.{last_second}
 use Rattle.texts.specs.TextValues.{identity_text}
 use Rattle.members.specs.Pairs.{Pairs}

@@ -1,11 +1,9 @@
 -- A register by its tables, and what each call does to them. Assumes nothing.
 use Rattle.std.specs.Prelude.{◌≡◌, ℕ, ◌<◌, Bool, true, false, ◌&&◌, List, ◌++◌, map, length, get_or, take, drop, Ok, vec_items, count_by, nat_lt, slice_index_or, slice_set}
 use Rattle.texts.specs.TextValues.{domain_text}
-use Rattle.members.specs.Pairs.{Pairs}
 use Rattle.notes.specs.Notes.{plain_note}
 use Rattle.notes.specs.Rules.{note_reads, rule_lawful}
 use Rattle.register.specs.declared.register.Register.{Register}
-use Rattle.register.specs.declared.request.Request.{Request}
 use Rattle.register.specs.declared.row.RuleRow.{RuleRow}
 use Rattle.register.specs.declared.target_row.TargetRow.{TargetRow}
 use Rattle.register.specs.Answers.{Opening, Call, add, withdraw, link, unlink, judge, Answer, accepted, refused, permitted, denied, Holdings, Answers}

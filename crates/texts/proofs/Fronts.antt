@@ -1,10 +1,9 @@
 -- What stands behind a front of a text. Assumes nothing.
-use Rattle.std.proofs.Common.{◌≡◌, ℕ, Bool, true, false, cond, not, ◌&&◌, eqb, leb, ◌≢◌, List, [], ◌∷◌, ◌++◌, length, is_some, Some, None, Option, sym, refl, ap, ◌∙◌, append_assoc, arith, Bor, MatchOption}
+use Rattle.std.proofs.Common.{◌≡◌, ℕ, true, false, cond, not, ◌&&◌, eqb, leb, ◌≢◌, List, [], ◌∷◌, ◌++◌, length, is_some, Some, None, Option, sym, ap, ◌∙◌, append_assoc, arith, Bor, MatchOption}
 use borrow.Author.Tests.{clash}
-use Rattle.std.specs.List.{AllByRecursion as All}
 use Rattle.std.proofs.lemmas.Bool.{eq-eqb}
 use Rattle.texts.specs.Lists.{each, none}
-use Rattle.texts.specs.Matching.{matches, begins, in_domain}
+use Rattle.texts.specs.Matching.{matches, begins}
 use Rattle.texts.specs.Texts.{visible, plain, segment, domain, slash_then, full}
 use Rattle.texts.proofs.Bools.{both_true}
 use Rattle.texts.proofs.Prefixes.{Starless, begins_not, begins_from, begins_append, matches_front, front_missing}

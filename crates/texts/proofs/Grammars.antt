@@ -1,6 +1,6 @@
 -- The test of identities is the grammar. Assumes nothing.
-use Rattle.std.proofs.Common.{◌≡◌, ℕ, ◌<◌, ◌≤◌, Bool, true, false, not, ◌&&◌, eqb, leb, ◌≢◌, ◌⊎◌, List, [], ◌∷◌, ◌++◌, length, codes, Decides, sym, refl, ap, ◌∙◌, inl, inr, append_assoc, arith}
-use Rattle.std.specs.List.{join_with_byte, AllByRecursion as All}
+use Rattle.std.proofs.Common.{◌≡◌, ℕ, ◌<◌, ◌≤◌, Bool, true, not, ◌&&◌, eqb, leb, ◌≢◌, ◌⊎◌, List, [], ◌∷◌, ◌++◌, length, codes, Decides, sym, refl, ap, ◌∙◌, inl, inr, append_assoc, arith}
+use Rattle.std.specs.List.{join_with_byte, AllByRecursion}
 use Rattle.std.proofs.ByRecursion.{All-weaker, Decides-by_and}
 use Rattle.std.proofs.lemmas.Bool.{and_parts, and_from, leb-true, le-leb, eqb-true, false≢true}
 use Rattle.std.proofs.lemmas.Bool.Decides.{nat_tests, Decides-and}
@@ -21,7 +21,7 @@ segment_decides : (s : List ℕ) → Decides (segment plain s) (Segment s)
 unfolding segment
 segment_decides s = Decides-and _ _ (some_decides s) (Decides-by_and plain Plain (each plain) plain_decides refl (λ _ _. refl) s)
 
-segments_decide : (ps : List (List ℕ)) → Decides (each (segment plain) ps) (All Segment ps)
+segments_decide : (ps : List (List ℕ)) → Decides (each (segment plain) ps) (AllByRecursion Segment ps)
 segments_decide = Decides-by_and (segment plain) Segment (each (segment plain)) segment_decides refl (λ _ _. refl)
 
 after_slash : (test : List ℕ → Bool) (t : List ℕ) → slash_then test t ≡ true → (u : List ℕ) × (t ≡ 47 ∷ u) × (test u ≡ true)
@@ -37,7 +37,7 @@ three_rejoined : (a b c : List ℕ) → codes "//" ++ a ++ codes "/" ++ b ++ cod
 three_rejoined a b c = simp append_assoc
 
 two_or_three :
-    (ps : List (List ℕ)) → 2 ≤ length ps → length ps ≤ 3 → All Segment ps
+    (ps : List (List ℕ)) → 2 ≤ length ps → length ps ≤ 3 → AllByRecursion Segment ps
     → TwoSegments (47 ∷ 47 ∷ join_with_byte 47 ps) ⊎ ThreeSegments (47 ∷ 47 ∷ join_with_byte 47 ps)
 two_or_three [] low high h = absurd (omega arith)
 two_or_three (a ∷ []) low high h = absurd (omega arith)
@@ -57,11 +57,11 @@ sound t e =
     let same : t ≡ 47 ∷ 47 ∷ join_with_byte 47 ps = u.1 ∙ ap (λ l. 47 ∷ l) v.1 ∙ ap (λ l. 47 ∷ 47 ∷ l) (sym (rejoined_pieces 47 v.0)) in
     (rw same (two_or_three ps (leb-true _ _ count.0) (leb-true _ _ count.1) ((segments_decide ps).0 parts.1)), leb-true _ _ h.0)
 
-no_slash : (s : List ℕ) → Segment s → All (λ b. b ≢ 47) s
+no_slash : (s : List ℕ) → Segment s → AllByRecursion (λ b. b ≢ 47) s
 no_slash s h = All-weaker Plain _ (λ b p. p.2) s h.1
 
 rejoined_path :
-    (t p : List ℕ) (ps : List (List ℕ)) → t ≡ 47 ∷ 47 ∷ join_with_byte 47 (p ∷ ps) → 1 ≤ length ps → length ps ≤ 2 → All Segment (p ∷ ps)
+    (t p : List ℕ) (ps : List (List ℕ)) → t ≡ 47 ∷ 47 ∷ join_with_byte 47 (p ∷ ps) → 1 ≤ length ps → length ps ≤ 2 → AllByRecursion Segment (p ∷ ps)
     → slash_then (slash_then (path plain 2 3)) t ≡ true
 unfolding path
 rejoined_path t p ps e low high h =

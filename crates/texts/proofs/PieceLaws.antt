@@ -1,6 +1,6 @@
 -- The pieces of a text, and the text that pieces make. Assumes nothing.
 use Rattle.std.proofs.Common.{◌≡◌, ℕ, Bool, true, false, cond, eqb, ◌≢◌, List, [], ◌∷◌, ◌++◌, length, sym, refl, ap, ◌∙◌}
-use Rattle.std.specs.List.{join_with_byte, AllByRecursion as All}
+use Rattle.std.specs.List.{join_with_byte, AllByRecursion}
 use Rattle.std.proofs.lemmas.Bool.{eq-eqb, ne_eqb, eqb-true}
 use Rattle.texts.specs.Pieces.{pieces, in_front}
 
@@ -18,19 +18,19 @@ pub length_in_front : (b : ℕ) (ps : List (List ℕ)) (p : List ℕ) (qs : List
 length_in_front b ps p qs e = ap (λ l. length (in_front b l)) e ∙ sym (ap length e)
 
 -- a text without a separator is one piece
-pieces_whole : (sep : ℕ) (s : List ℕ) → All (λ b. b ≢ sep) s → pieces sep s ≡ s ∷ []
+pieces_whole : (sep : ℕ) (s : List ℕ) → AllByRecursion (λ b. b ≢ sep) s → pieces sep s ≡ s ∷ []
 unfolding pieces
 pieces_whole sep [] h = refl
 pieces_whole sep (b ∷ s) h = rw (ne_eqb b sep h.0, pieces_whole sep s h.1)
 
-pieces_cut : (sep : ℕ) (s t : List ℕ) → All (λ b. b ≢ sep) s → pieces sep (s ++ (sep ∷ t)) ≡ s ∷ pieces sep t
+pieces_cut : (sep : ℕ) (s t : List ℕ) → AllByRecursion (λ b. b ≢ sep) s → pieces sep (s ++ (sep ∷ t)) ≡ s ∷ pieces sep t
 unfolding pieces
 pieces_cut sep [] t h = rw (eq-eqb sep sep refl)
 pieces_cut sep (b ∷ s) t h = rw (ne_eqb b sep h.0, pieces_cut sep s t h.1)
 
 -- pieces without a separator are those of the text that they make
 pub pieces_rejoined :
-    (sep : ℕ) (p : List ℕ) (ps : List (List ℕ)) → All (λ b. b ≢ sep) p → All (All (λ b. b ≢ sep)) ps
+    (sep : ℕ) (p : List ℕ) (ps : List (List ℕ)) → AllByRecursion (λ b. b ≢ sep) p → AllByRecursion (AllByRecursion (λ b. b ≢ sep)) ps
     → pieces sep (join_with_byte sep (p ∷ ps)) ≡ p ∷ ps
 pieces_rejoined sep p [] h hs = pieces_whole sep p h
 pieces_rejoined sep p (q ∷ ps) h hs = pieces_cut sep p (join_with_byte sep (q ∷ ps)) h ∙ ap (λ l. p ∷ l) (pieces_rejoined sep q ps hs.0 hs.1)

@@ -1,7 +1,7 @@
 -- Texts that begin alike, and patterns that match patterns. Assumes nothing.
-use Rattle.std.proofs.Common.{◌≡◌, ℕ, Bool, true, false, not, ◌&&◌, ◌||◌, eqb, ◌≢◌, List, [], ◌∷◌, ◌++◌, sym, refl, ap, ◌∙◌, ⊎_elim, append_assoc}
+use Rattle.std.proofs.Common.{◌≡◌, ℕ, Bool, true, false, not, ◌&&◌, eqb, ◌≢◌, List, [], ◌∷◌, ◌++◌, sym, refl, ap, ◌∙◌, ⊎_elim, append_assoc}
 use borrow.Author.Tests.{clash}
-use Rattle.std.specs.List.{AllByRecursion as All}
+use Rattle.std.specs.List.{AllByRecursion}
 use Rattle.std.proofs.lemmas.Bool.{eq-eqb}
 use Rattle.texts.specs.Matching.{next_is, further, matches, begins}
 use Rattle.texts.proofs.Bools.{both_true, and_true, or_true, or_left, or_right}
@@ -10,7 +10,7 @@ use Rattle.texts.proofs.Replacements.{at_star_or_byte, next_there}
 
 -- no byte is a star
 abbrev pub Starless : List ℕ → Type 0
-Starless = All (λ b. b ≢ 42)
+Starless = AllByRecursion (λ b. b ≢ 42)
 
 next_from : (b : ℕ) (f : List ℕ → Bool) (t : List ℕ) → f t ≡ true → next_is b f (b ∷ t) ≡ true
 next_from b f t e = and_true (eqb b b) (f t) (eq-eqb b b refl) e

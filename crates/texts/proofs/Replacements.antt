@@ -1,15 +1,14 @@
 -- The test of matching is the replacing of stars. Assumes nothing.
-use Rattle.std.proofs.Common.{◌≡◌, ℕ, Bool, true, false, cond, not, ◌&&◌, ◌||◌, eqb, ◌≢◌, ◌⊎◌, List, [], ◌∷◌, ◌++◌, sym, refl, ap, ◌∙◌, subst, inl, inr, ⊎_elim}
+use Rattle.std.proofs.Common.{◌≡◌, ℕ, Bool, true, cond, not, ◌&&◌, ◌||◌, eqb, ◌≢◌, List, [], ◌∷◌, ◌++◌, sym, refl, ap, ◌∙◌, subst, ⊎_elim}
 use borrow.Author.Tests.{clash}
-use Rattle.std.specs.List.{AllByRecursion as All}
+use Rattle.std.specs.List.{AllByRecursion}
 use Rattle.std.proofs.lemmas.Bool.{cases_eq, eq-eqb, ne_eqb, eqb-true}
-use Rattle.texts.specs.Lists.{none}
 use Rattle.texts.specs.Matching.{first, others, replaced, Matches, next_is, further, matches, Replacing}
 use Rattle.texts.proofs.Bools.{both_true, or_true, or_left, or_right}
-use Rattle.texts.proofs.Matchings.{matches_byte, matches_star, further_here, not_slash}
+use Rattle.texts.proofs.Matchings.{matches_byte, further_here, not_slash}
 
 abbrev NoSlash : List ℕ → Type 0
-NoSlash = All (λ b. b ≢ 47)
+NoSlash = AllByRecursion (λ b. b ≢ 47)
 
 -- what a star takes, and what is left
 further_parts :
@@ -63,15 +62,15 @@ forth (b ∷ p) t e =
     (z.0, z.1, replaced_byte b p z.0 n ∙ ap (λ x. b ∷ x) z.2 ∙ sym w.1))
     e
 
-first_plain : (rs : List (List ℕ)) → All NoSlash rs → NoSlash (first rs)
+first_plain : (rs : List (List ℕ)) → AllByRecursion NoSlash rs → NoSlash (first rs)
 first_plain [] h = tt
 first_plain (r ∷ rs) h = h.0
 
-others_plain : (rs : List (List ℕ)) → All NoSlash rs → All NoSlash (others rs)
+others_plain : (rs : List (List ℕ)) → AllByRecursion NoSlash rs → AllByRecursion NoSlash (others rs)
 others_plain [] h = tt
 others_plain (r ∷ rs) h = h.1
 
-pub back : (p : List ℕ) (rs : List (List ℕ)) → All NoSlash rs → matches p (replaced p rs) ≡ true
+pub back : (p : List ℕ) (rs : List (List ℕ)) → AllByRecursion NoSlash rs → matches p (replaced p rs) ≡ true
 unfolding replaced matches
 back [] rs h = refl
 back (b ∷ p) rs h =

@@ -5,9 +5,8 @@ use Rattle.std.proofs.ByRecursion.{All-push}
 use Rattle.std.proofs.lemmas.List.{drop_more, drop_all}
 use Rattle.std.proofs.lemmas.Bool.{cases_eq, eq-eqb, ne_eqb}
 use Rattle.texts.specs.Matching.{next_is, further, matches}
-use Rattle.texts.specs.Walks.{Literal, longer, succeeds, Passed, tries, steps_left, Stepped, Lengthened}
+use Rattle.texts.specs.Walks.{longer, Passed, tries, Stepped, Lengthened}
 use Rattle.texts.specs.declared.matching.walk.Star.{Star}
-use Rattle.texts.specs.declared.matching.walk.Walk.{Walk}
 use Rattle.texts.specs.declared.matching.walk.Step.{Step}
 use Rattle.texts.specs.declared.matching.walk.Step.TheVariants.{On, Answer}
 use Rattle.texts.proofs.Matchings.{matches_byte, matches_star, star_takes_over, slash_stops, unless_true}

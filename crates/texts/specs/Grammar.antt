@@ -1,6 +1,6 @@
 -- What identities are, in the words of the grammar. Assumes nothing.
 use Rattle.std.specs.Prelude.{◌≡◌, ℕ, ◌<◌, ◌≤◌, ◌≢◌, ◌⊎◌, List, ◌++◌, length, codes, Decides}
-use Rattle.std.specs.List.{AllByRecursion as All}
+use Rattle.std.specs.List.{AllByRecursion}
 use Rattle.texts.specs.Texts.{identity}
 
 -- 0x21 to 0x7E without '/' and '*'
@@ -9,7 +9,7 @@ Plain b = (0x21 ≤ b) × (b ≤ 0x7E) × (b ≢ 0x2F) × (b ≢ 0x2A)
 
 -- one or more such bytes
 abbrev pub Segment : List ℕ → Type 0
-Segment s = (0 < length s) × All Plain s
+Segment s = (0 < length s) × AllByRecursion Plain s
 
 -- '//' and two segments, with '/' between them
 abbrev pub TwoSegments : List ℕ → Type 0

@@ -1,6 +1,6 @@
 -- When a pattern matches a text. '/' is 47 and '*' is 42. Assumes nothing.
 use Rattle.std.specs.Prelude.{◌≡◌, ℕ, Bool, true, false, cond, not, ◌&&◌, ◌||◌, ◌≢◌, List, [], ◌∷◌, ◌++◌, Decides, ◌==◌}
-use Rattle.std.specs.List.{AllByRecursion as All}
+use Rattle.std.specs.List.{AllByRecursion}
 use Rattle.texts.specs.Lists.{none}
 
 -- the first of the replacements, or no byte where there is none
@@ -19,7 +19,7 @@ replaced (b ∷ p) rs = cond (b == 42) (first rs ++ replaced p (others rs)) (b �
 
 -- there are replacements without a '/' that make the pattern equal to the text
 abbrev pub Matches : List ℕ → List ℕ → Type 0
-Matches p t = (rs : List (List ℕ)) × All (All (λ b. b ≢ 47)) rs × (replaced p rs ≡ t)
+Matches p t = (rs : List (List ℕ)) × AllByRecursion (AllByRecursion (λ b. b ≢ 47)) rs × (replaced p rs ≡ t)
 
 -- the byte b, and behind it a text for which the test holds
 abbrev pub next_is : ℕ → (List ℕ → Bool) → List ℕ → Bool

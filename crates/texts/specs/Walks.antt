@@ -1,6 +1,6 @@
 -- How far a match has come. Assumes nothing.
 use Rattle.std.specs.Prelude.{◌≡◌, ℕ, ◌+◌, ◌*◌, ◌<◌, Bool, false, ◌||◌, ◌≢◌, ◌⊎◌, List, [], ◌∷◌, ◌++◌, length, drop, Some, None, Option}
-use Rattle.std.specs.List.{AllByRecursion as All}
+use Rattle.std.specs.List.{AllByRecursion}
 use Rattle.texts.specs.Matching.{further, matches}
 use Rattle.texts.specs.declared.matching.walk.Star.{Star}
 use Rattle.texts.specs.declared.matching.walk.Walk.{Walk}
@@ -9,7 +9,7 @@ use Rattle.texts.specs.declared.matching.walk.Step.TheVariants.{On, Answer}
 
 -- bytes that are neither '*' nor '/'
 abbrev pub Literal : List ℕ → Type 0
-Literal bs = All (λ b. (b ≢ 42) × (b ≢ 47)) bs
+Literal bs = AllByRecursion (λ b. (b ≢ 42) × (b ≢ 47)) bs
 
 -- whether the match succeeds when the last star stands for more bytes
 abbrev pub longer : List ℕ → List ℕ → Option Star → Bool

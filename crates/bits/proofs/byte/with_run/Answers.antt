@@ -1,4 +1,4 @@
-use Rattle.std.proofs.Common.{◌-◌, ◌<◌, arith}
+use Rattle.std.proofs.Common.{◌<◌, arith}
 use Rattle.bits.specs.Digits.{replaced}
 use Rattle.bits.proofs.ByteLaws.{replaced_below, shifts}
 use Rattle.bits.proofs.byte.with_run.Goals as goal

@@ -1,15 +1,12 @@
 use Rattle.std.proofs.Common.{[], ◌∷◌, refl, ap, ◌∙◌, inl}
 use Rattle.std.proofs.lemmas.Result.{err_from_is_err_and}
-use Rattle.journal.specs.declared.name.CallName.TheVariants.{When}
-use Rattle.journal.specs.Numbers.{Decimal}
-use Rattle.journal.proofs.Faults.{missed, unread}
 use Rattle.journal.proofs.call.when.Goals as goal
 
 pub returns-in_err-instant : goal.returns-in_err-instant
 returns-in_err-instant c =
     let p = err_from_is_err_and c.from_residual.result c.from_residual.ensures.1 in
     let told = c.in_err-instant.ensures in
-    rw (p.1, p.2) (unread When _ _ (inl (told.0, missed Decimal told.1)))
+    rw (p.1, p.2) (λ call m. told.1 m.0 [] m.1 m.2 m.3, inl told.0)
 
 pub returns : goal.returns
 returns c =

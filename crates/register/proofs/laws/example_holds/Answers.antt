@@ -1,4 +1,4 @@
-use Rattle.std.proofs.Common.{◌≡◌, ℕ, ◌+◌, ◌<◌, true, false, cond, ◌&&◌, sym, subst, arith}
+use Rattle.std.proofs.Common.{ℕ, ◌+◌, ◌<◌, true, false, cond, ◌&&◌, sym, subst, arith}
 use Rattle.register.proofs.laws.example_holds.Goals as goal
 
 pub returns : goal.returns

@@ -1,4 +1,4 @@
-use Rattle.std.proofs.Common.{[], ◌∷◌, ◌++◌, sym, ap, ◌∙◌}
+use Rattle.std.proofs.Common.{[], ◌∷◌, sym, ap, ◌∙◌}
 use Rattle.texts.specs.Matching.{in_domain}
 use Rattle.texts.proofs.Fronts.{behind_there}
 use Rattle.texts.proofs.Prefixes.{begins_append, begins_less}

@@ -1,6 +1,6 @@
-use Rattle.std.proofs.Common.{Bool, ◌&&◌}
+use Rattle.std.proofs.Common.{◌&&◌}
 use Rattle.texts.specs.Lists.{some}
-use Rattle.texts.specs.TextValues.{domain_text, identity_text}
+use Rattle.texts.specs.TextValues.{domain_text}
 use Rattle.admission.specs.Admitting.{originator_matches, contexts_admit, rule_admits}
 use Rattle.admission.specs.Requests.{request_of}
 use Rattle.admission.specs.Views.{rule_in}

@@ -1,9 +1,9 @@
-use Rattle.std.proofs.Common.{ℕ, ◌≤◌, length, sym, refl, ap, ◌∙◌, subst, inl}
+use Rattle.std.proofs.Common.{length, sym, refl, ap, ◌∙◌, subst, inl}
 use Rattle.std.proofs.lemmas.Result.{err_from_is_err_and}
 use Rattle.journal.specs.declared.unreadable.Kind.TheVariants.{Name}
 use Rattle.journal.specs.Fields.{fault, field_at}
 use Rattle.journal.specs.Names.{spelling}
-use Rattle.journal.specs.Words.{left, Within}
+use Rattle.journal.specs.Words.{Within}
 use Rattle.journal.proofs.Calls.{by_name}
 use Rattle.journal.proofs.Pieces.{pieces_within}
 use Rattle.journal.proofs.call.Call.read.Goals as goal
@@ -13,18 +13,12 @@ returns-in_err-name c =
     let p = err_from_is_err_and c.from_residual.result c.from_residual.ensures.1 in
     let told = c.in_err-name.ensures in
     let same = c.new-words.ensures in
-    rw (p.1, p.2) (λ call s. told.1 (spelling s.0) s.1 s.0 (same ∙ s.2) refl, inl (told.0 ∙ ap (fault (field_at 1 Name)) same, λ words first. told.1 first.0 words first.1 (same ∙ first.2) first.3))
+    rw (p.1, p.2) (λ call s. told.1 (spelling s.0) s.1 s.0 (same ∙ s.2) refl, inl (told.0 ∙ ap (fault (field_at 1 Name)) same))
 
 pub arguments-requires : goal.arguments-requires
 arguments-requires c =
     let taken = c.in_ok-name.ensures in
-    let within : (n : ℕ) → length c.args.line.now ≤ n → Within n (left c.name.new.words) =
-    λ n fits. (subst (Within n) (sym c.new-words.ensures ∙ taken.1) (pieces_within 32 c.args.line.now n fits)).1
-    in
-    record {
-      within = within (length c.args.space.now) c.requires.space_in_bounds;
-      other_within = within (length c.args.other_space.now) c.requires.other_space_in_bounds;
-    }
+    (subst (Within (length c.args.space.now)) (sym c.new-words.ensures ∙ taken.1) (pieces_within 32 c.args.line.now (length c.args.space.now) c.requires)).1
 
 pub returns : goal.returns
 returns c =

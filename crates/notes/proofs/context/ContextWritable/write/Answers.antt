@@ -1,4 +1,4 @@
-use Rattle.std.proofs.Common.{◌+◌, ◌++◌, length, ap, subst, arith}
+use Rattle.std.proofs.Common.{◌++◌, length, ap, subst, arith}
 use Rattle.std.specs.List.{flat_map}
 use Rattle.bits.specs.Writer.{Wrote}
 use Rattle.notes.specs.Windows.{window_form}

@@ -1,4 +1,4 @@
-use Rattle.std.proofs.Common.{◌≡◌, length, Ok, vec_items, sym, ap, ◌∙◌, arith, length-take}
+use Rattle.std.proofs.Common.{length, Ok, vec_items, sym, ap, ◌∙◌, arith, length-take}
 use Rattle.notes.specs.Rules.{rule_lawful}
 use Rattle.register.specs.Tables.{tables, Holding}
 use Rattle.register.proofs.Calls.{add_taken, add_full, add_placed}

@@ -1,8 +1,6 @@
-use Rattle.std.proofs.Common.{◌≡◌, ◌+◌, Bool, true, false, cond, eqb, ◌∷◌, drop, sym, ap, ◌∙◌, subst}
-use Rattle.std.proofs.lemmas.Bool.{cases_eq}
+use Rattle.std.proofs.Common.{◌+◌, ◌∷◌, drop, sym, ap, ◌∙◌, subst}
 use Rattle.texts.specs.Walks.{Stepped}
 use Rattle.texts.specs.declared.matching.walk.Step.TheVariants.{On}
-use Rattle.texts.proofs.Matchings.{matches_byte}
 use Rattle.texts.proofs.Walking.{fails_at, fails_behind, at_either}
 use Rattle.texts.proofs.matching.walk.Walk.at_byte.Goals as goal
 
