@@ -132,7 +132,7 @@ CALLS = {
 }
 NOT_SERVED = ["role", "request"]
 # Known here, and not served by the program yet: what is written for its test says so.
-NOT_SERVED_BY_PROGRAM = "add withdraw link unlink member present clear leave readmit judge".split()
+NOT_SERVED_BY_PROGRAM = "open add withdraw link unlink member present clear leave readmit judge cover".split()
 
 
 class Unreadable(Exception):
