@@ -23,7 +23,7 @@ use Rattle.notes.specs.declared.operation.Operation.{Operation}
 use Rattle.notes.specs.declared.operation.Operation.TheVariants.{Create, Retrieve, Update, Delete, Discover, Notify}
 use Rattle.notes.specs.declared.originator.EntryKind.{EntryKind}
 use Rattle.notes.specs.declared.originator.EntryKind.TheVariants.{All as AllKind, Pattern, Domain, Standing}
-use Rattle.notes.specs.ConstraintsLemmas.{list_sound}
+use Rattle.notes.specs.ConstraintsLemmas.{list_sound_option}
 use Rattle.notes.specs.SetsLemmas.{contains_member}
 use Rattle.notes.specs.Sound.{type_sound, context_sound}
 use Rattle.admission.specs.Admitting.{kind_matches, originator_matches, types_admit, in_context, contexts_admit, rule_is_for, rule_admits}
@@ -84,7 +84,7 @@ module _ (home : List ℕ) (few more : Pairs) (lacks : LacksNone few more) (iden
 
 types_sound :
     (o : Operation) (xs ys : List ℕ) (t : Option ℕ) → list_covers eqb xs ys ≡ true → types_admit o ys t ≡ true → types_admit o xs t ≡ true
-types_sound Create xs ys t c a = list_sound eqb eqb type_sound xs ys t c a
+types_sound Create xs ys t c a = list_sound_option eqb eqb type_sound xs ys t c a
 types_sound Retrieve xs ys t c a = refl
 types_sound Update xs ys t c a = refl
 types_sound Delete xs ys t c a = refl
@@ -93,7 +93,7 @@ types_sound Notify xs ys t c a = refl
 
 contexts_sound : (cs ds : List ContextValue) (q : RequestValue) → list_covers context_covers cs ds ≡ true → contexts_admit ds q ≡ true → contexts_admit cs q ≡ true
 contexts_sound cs ds q =
-    list_sound in_context context_covers (λ c d q. context_sound c d (civil_of q.instant) q.address q.country) cs ds (Some q)
+    list_sound_option in_context context_covers (λ c d q. context_sound c d (civil_of q.instant) q.address q.country) cs ds (Some q)
 
 flags_sound : (r s q : Bool) → (not r || s) ≡ true → (not s || q) ≡ true → (not r || q) ≡ true
 flags_sound true true q c a = a

@@ -1,11 +1,20 @@
 -- Lists of constraints. Assumes nothing.
 use Rattle.std.specs.Prelude.{◌≡◌, Bool, true, false, not, ◌&&◌, ◌||◌, List, [], ◌∷◌, map, Some, None, Option}
 use Rattle.std.proofs.Math.Path.{refl}
-use Rattle.std.proofs.Common.{ap, ⊎_elim}
+use Rattle.std.proofs.Common.{sym, ap, ◌∙◌, ⊎_elim}
 use borrow.Author.Tests.{clash}
 use Rattle.texts.specs.Lists.{some, each, none}
 use Rattle.notes.specs.Constraints.{offered, list_admits, list_admits_option, list_covers}
 use Rattle.texts.proofs.Bools.{both_true, or_true, or_left, or_right}
+
+-- what the mark says of a value that is lent beside it
+pub offered_admits :
+    {X V : Type 0} (admits : X → V → Bool) (xs : List X) (there : Bool) (v : V)
+    → list_admits_option admits xs (offered there v) ≡ list_admits admits xs there v
+unfolding list_admits list_admits_option
+offered_admits admits xs true v = refl
+offered_admits admits [] false v = refl
+offered_admits admits (x ∷ xs) false v = refl
 
 module _ {X V : Type 0} (admits : X → V → Bool) (covers : X → X → Bool)
     (sound : (a b : X) (v : V) → covers a b ≡ true → admits b v ≡ true → admits a v ≡ true) where
@@ -19,22 +28,17 @@ module _ {X V : Type 0} (admits : X → V → Bool) (covers : X → X → Bool)
   each_sound xs (y ∷ ys) v e a =
       let h = both_true _ _ e in ⊎_elim (λ c. some_sound xs y v h.0 c) (λ c. each_sound xs ys v h.1 c) (or_true _ _ a)
 
-  pub list_sound : (xs ys : List X) (v : Option V) → list_covers covers xs ys ≡ true → list_admits_option admits ys v ≡ true → list_admits_option admits xs v ≡ true
+  pub list_sound_option : (xs ys : List X) (v : Option V) → list_covers covers xs ys ≡ true → list_admits_option admits ys v ≡ true → list_admits_option admits xs v ≡ true
   unfolding list_covers list_admits_option
-  list_sound [] ys None c a = refl
-  list_sound [] ys (Some v) c a = refl
-  list_sound (x ∷ xs) [] v c a = absurd (clash c)
-  list_sound (x ∷ xs) (y ∷ ys) None c a = absurd (clash a)
-  list_sound (x ∷ xs) (y ∷ ys) (Some v) c a = each_sound (x ∷ xs) (y ∷ ys) v c a
+  list_sound_option [] ys None c a = refl
+  list_sound_option [] ys (Some v) c a = refl
+  list_sound_option (x ∷ xs) [] v c a = absurd (clash c)
+  list_sound_option (x ∷ xs) (y ∷ ys) None c a = absurd (clash a)
+  list_sound_option (x ∷ xs) (y ∷ ys) (Some v) c a = each_sound (x ∷ xs) (y ∷ ys) v c a
 
--- what the mark says of a value that is lent beside it
-pub offered_admits :
-    {X V : Type 0} (admits : X → V → Bool) (xs : List X) (there : Bool) (v : V)
-    → list_admits_option admits xs (offered there v) ≡ list_admits admits xs there v
-unfolding list_admits list_admits_option
-offered_admits admits xs true v = refl
-offered_admits admits [] false v = refl
-offered_admits admits (x ∷ xs) false v = refl
+  pub list_sound : (xs ys : List X) (there : Bool) (v : V) → list_covers covers xs ys ≡ true → list_admits admits ys there v ≡ true → list_admits admits xs there v ≡ true
+  list_sound xs ys there v c a =
+      sym (offered_admits admits xs there v) ∙ list_sound_option xs ys (offered there v) c (offered_admits admits ys there v ∙ a)
 
 -- lists of what items stand for
 pub some_map : {X Y : Type 0} (p : Y → Bool) (f : X → Y) (xs : List X) → some p (map f xs) ≡ some (λ x. p (f x)) xs

@@ -10,7 +10,7 @@ use Rattle.notes.specs.Countries.{country_same}
 use Rattle.notes.specs.Constraints.{list_admits_option, list_covers}
 use Rattle.notes.specs.Contexts.{ContextValue, context_admits, context_covers}
 use Rattle.texts.proofs.Bools.{both_true, and_true}
-use Rattle.notes.specs.ConstraintsLemmas.{list_sound}
+use Rattle.notes.specs.ConstraintsLemmas.{list_sound_option}
 use Rattle.notes.specs.WindowsLemmas.{window_sound}
 use Rattle.notes.specs.BlocksLemmas.{block_sound}
 
@@ -32,6 +32,6 @@ context_sound c d time address country h a =
     let h2 = both_true (list_covers block_covers c.blocks d.blocks) (list_covers country_same c.countries d.countries) h1.1 in
     let a1 = both_true (list_admits_option window_admits d.windows (Some time)) _ a in
     let a2 = both_true (list_admits_option block_admits d.blocks address) (list_admits_option country_same d.countries country) a1.1 in
-    and_true _ _ (list_sound window_admits window_covers window_sound c.windows d.windows (Some time) h1.0 a1.0)
-    (and_true _ _ (list_sound block_admits block_covers block_sound c.blocks d.blocks address h2.0 a2.0)
-    (list_sound country_same country_same country_sound c.countries d.countries country h2.1 a2.1))
+    and_true _ _ (list_sound_option window_admits window_covers window_sound c.windows d.windows (Some time) h1.0 a1.0)
+    (and_true _ _ (list_sound_option block_admits block_covers block_sound c.blocks d.blocks address h2.0 a2.0)
+    (list_sound_option country_same country_same country_sound c.countries d.countries country h2.1 a2.1))
