@@ -1,14 +1,14 @@
 -- The steps of a match. Assumes nothing.
-use Rattle.std.proofs.Common.{◌≡◌, ℕ, suc, ◌+◌, ◌*◌, ◌<◌, ◌≤◌, Bool, true, false, cond, not, ◌&&◌, ◌||◌, eqb, ◌≢◌, ◌⊎◌, List, [], ◌∷◌, ◌++◌, length, drop, Some, None, Option, sym, refl, ap, ◌∙◌, subst, inl, inr, ⊎_elim, append_assoc, add-mul, mul-le-mul, arith, length-append}
+use Rattle.std.proofs.Common.{◌≡◌, ℕ, suc, ◌+◌, ◌*◌, ◌<◌, ◌≤◌, Bool, true, false, not, ◌&&◌, ◌||◌, ◌≢◌, ◌⊎◌, List, [], ◌∷◌, ◌++◌, length, Some, None, Option, sym, refl, ap, ◌∙◌, subst, inl, inr, append_assoc, add-mul, mul-le-mul, arith, length-append, Bor}
 use borrow.Author.Tests.{clash}
 use Rattle.std.proofs.ByRecursion.{All-push}
-use Rattle.std.proofs.lemmas.List.{drop_more, drop_all}
-use Rattle.std.proofs.lemmas.Bool.{cases_eq, eq-eqb, ne_eqb}
+use Rattle.std.proofs.lemmas.Bool.{eq-eqb, ne_eqb}
 use Rattle.texts.specs.Matching.{next_is, further, matches}
+use Rattle.std.specs.declared.ops.ControlFlow.{ControlFlow}
+use Rattle.std.specs.declared.ops.ControlFlow.TheVariants.{Continue, Break}
 use Rattle.texts.specs.Walks.{longer, Passed, tries, Stepped, Lengthened}
 use Rattle.texts.specs.declared.matching.walk.Star.{Star}
-use Rattle.texts.specs.declared.matching.walk.Step.{Step}
-use Rattle.texts.specs.declared.matching.walk.Step.TheVariants.{On, Answer}
+use Rattle.texts.specs.declared.matching.walk.Walk.{Walk}
 use Rattle.texts.proofs.Matchings.{matches_byte, matches_star, star_takes_over, slash_stops, unless_true}
 
 absorbed : (a b : Bool) → (b ≡ true → a ≡ true) → (a || b) ≡ a
@@ -22,119 +22,125 @@ next_here b f t = ap (λ s. s && f t) (eq-eqb b b refl)
 pub next_other : (b c : ℕ) (f : List ℕ → Bool) (t : List ℕ) → b ≢ c → next_is b f (c ∷ t) ≡ false
 next_other b c f t h = ap (λ s. s && f t) (ne_eqb b c h)
 
-module _ (p t : List ℕ) (i j : ℕ) where
+no_item : (t : List ℕ) → length t ≡ 0 → t ≡ []
+no_item [] h = refl
+no_item (c ∷ u) h = absurd (omega arith)
+
+-- a match with p and t left and the star s goes on, as well, with q and u left and the star r
+abbrev pub Onward : List ℕ → List ℕ → Option Star → List ℕ → List ℕ → Option Star → Type 0
+Onward p t s q u r =
+    Passed q u r × ((matches q u || longer r) ≡ (matches p t || longer s)) × (tries q u r + length q < tries p t s + length p)
+
+module _ (p t : List ℕ) where
   -- no more was tried than since the last star
-  tries_least : (s : Option Star) → Passed p t i j s → length (drop j t) * (1 + length (drop i p)) ≤ tries p t i j s
+  tries_least : (s : Option Star) → Passed p t s → length t * (1 + length p) ≤ tries p t s
   tries_least None h = omega arith
   tries_least (Some s) (bs, l, ep, et) =
-      mul-le-mul (omega (arith, ap length et, length-append bs (drop j t))) (omega (arith, ap length ep, length-append bs (drop i p)))
+      mul-le-mul (omega (arith, ap length et, length-append bs t)) (omega (arith, ap length ep, length-append bs p))
 
   -- a shorter pattern and a text that is no longer
   fewer :
-      (s : Option Star) → Passed p t i j s → (q u : List ℕ) → length (drop i p) ≡ suc (length q) → length u ≤ length (drop j t)
-      → length u * (1 + length q) + length q < tries p t i j s + length (drop i p)
+      (s : Option Star) → Passed p t s → (q u : List ℕ) → length p ≡ suc (length q) → length u ≤ length t
+      → length u * (1 + length q) + length q < tries p t s + length p
   fewer s h q u e le =
       let least = tries_least s h in
-      let less : length u * (1 + length q) ≤ length (drop j t) * (1 + length (drop i p)) = mul-le-mul le (omega arith) in
+      let less : length u * (1 + length q) ≤ length t * (1 + length p) = mul-le-mul le (omega arith) in
       omega arith
 
-  taken_over : (s : Option Star) → Passed p t i j s → drop i p ≡ 42 ∷ drop (i + 1) p → longer p t s ≡ true → matches (drop i p) (drop j t) ≡ true
-  taken_over None h e l = absurd (clash l)
-  taken_over (Some s) (bs, lit, ep, et) e l =
+  taken_over : (s : Option Star) → Passed p t s → (q : List ℕ) → p ≡ 42 ∷ q → longer s ≡ true → matches p t ≡ true
+  taken_over None h q e l = absurd (clash l)
+  taken_over (Some s) (bs, lit, ep, et) q e l =
       let front = ep ∙ ap (λ x. bs ++ x) e in
-      let same : further (matches (drop s.after p)) (drop s.at t) ≡ further (matches (bs ++ (42 ∷ drop (i + 1) p))) (bs ++ drop j t) = (λ k. further (matches (front k)) (et k)) in
-      ap (λ x. matches x (drop j t)) e ∙ star_takes_over bs (drop (i + 1) p) (drop j t) lit (sym same ∙ l)
+      let same : further (matches s.pattern.now) s.text.now ≡ further (matches (bs ++ (42 ∷ q))) (bs ++ t) = (λ k. further (matches (front k)) (et k)) in
+      ap (λ x. matches x t) e ∙ star_takes_over bs q t lit (sym same ∙ l)
 
-  pub at_star :
-      (s : Option Star) → Passed p t i j s → drop i p ≡ 42 ∷ drop (i + 1) p
-      → Stepped p t (record { pattern = i; text = j; star = s }) (On (record { pattern = i + 1; text = j; star = Some (record { after = i + 1; at = j }) }))
-  at_star s h e = (
-    ([], tt, refl, refl),
-    sym (absorbed _ _ (taken_over s h e) ∙ ap (λ x. matches x (drop j t)) e ∙ matches_star (drop (i + 1) p) (drop j t)),
-    fewer s h (drop (i + 1) p) (drop j t) (ap length e) (omega arith),
+  pub at_star : (s : Option Star) → Passed p t s → (r : Star) → p ≡ 42 ∷ r.pattern.now → t ≡ r.text.now → Onward p t s r.pattern.now t (Some r)
+  at_star s h r e same = (
+    ([], tt, refl, sym same),
+    (λ k. matches r.pattern.now t || further (matches r.pattern.now) (sym same k))
+    ∙ sym (absorbed _ _ (taken_over s h r.pattern.now e) ∙ ap (λ x. matches x t) e ∙ matches_star r.pattern.now t),
+    fewer s h r.pattern.now r.text.now (ap length e) (omega (arith, ap length same)),
   )
 
-  module _ (b : ℕ) (ep : drop i p ≡ b ∷ drop (i + 1) p) (et : drop j t ≡ b ∷ drop (j + 1) t) (plain : b ≢ 42) where
-    passed_byte : matches (drop i p) (drop j t) ≡ matches (drop (i + 1) p) (drop (j + 1) t)
-    passed_byte =
-        (λ k. matches (ep k) (et k)) ∙ matches_byte b (drop (i + 1) p) (b ∷ drop (j + 1) t) plain ∙ next_here b (matches (drop (i + 1) p)) (drop (j + 1) t)
+  module _ (b : ℕ) (q u : List ℕ) (ep : p ≡ b ∷ q) (et : t ≡ b ∷ u) (plain : b ≢ 42) where
+    passed_byte : matches p t ≡ matches q u
+    passed_byte = (λ k. matches (ep k) (et k)) ∙ matches_byte b q (b ∷ u) plain ∙ next_here b (matches q) u
 
-    one_more : (q u bs : List ℕ) → q ≡ b ∷ u → bs ++ q ≡ (bs ++ (b ∷ [])) ++ u
-    one_more q u bs e = ap (λ x. bs ++ x) e ∙ sym (append_assoc bs (b ∷ []) u)
+    one_more : (l v bs : List ℕ) → l ≡ b ∷ v → bs ++ l ≡ (bs ++ (b ∷ [])) ++ v
+    one_more l v bs e = ap (λ x. bs ++ x) e ∙ sym (append_assoc bs (b ∷ []) v)
 
-    longer_stops : (s : Option Star) → Passed p t i j s → b ≡ 47 → longer p t s ≡ false
+    longer_stops : (s : Option Star) → Passed p t s → b ≡ 47 → longer s ≡ false
     longer_stops None h e = refl
     longer_stops (Some s) (bs, lit, fp, ft) e =
-        (λ k. further (matches ((fp ∙ ap (λ x. bs ++ x) (ep ∙ ap (λ c. c ∷ drop (i + 1) p) e)) k)) ((ft ∙ ap (λ x. bs ++ x) (et ∙ ap (λ c. c ∷ drop (j + 1) t) e)) k))
-        ∙ slash_stops bs (drop (i + 1) p) (drop (j + 1) t) lit
+        (λ k. further (matches ((fp ∙ ap (λ x. bs ++ x) (ep ∙ ap (λ c. c ∷ q) e)) k)) ((ft ∙ ap (λ x. bs ++ x) (et ∙ ap (λ c. c ∷ u) e)) k))
+        ∙ slash_stops bs q u lit
 
-    shorter : length (drop (j + 1) t) ≤ length (drop j t)
+    shorter : length u ≤ length t
     shorter = omega (arith, ap length et)
 
-    at_slash :
-        (s : Option Star) → Passed p t i j s → b ≡ 47
-        → Stepped p t (record { pattern = i; text = j; star = s }) (On (record { pattern = i + 1; text = j + 1; star = None }))
-    at_slash s h e =
-        (tt, (λ k. sym passed_byte k || sym (longer_stops s h e) k), fewer s h (drop (i + 1) p) (drop (j + 1) t) (ap length ep) shorter)
+    pub at_slash : (s : Option Star) → Passed p t s → b ≡ 47 → Onward p t s q u None
+    at_slash s h e = (tt, (λ k. sym passed_byte k || sym (longer_stops s h e) k), fewer s h q u (ap length ep) shorter)
 
-    at_byte :
-        (s : Option Star) → Passed p t i j s → b ≢ 47
-        → Stepped p t (record { pattern = i; text = j; star = s }) (On (record { pattern = i + 1; text = j + 1; star = s }))
-    at_byte None h n = (tt, (λ k. sym passed_byte k || false), fewer None h (drop (i + 1) p) (drop (j + 1) t) (ap length ep) shorter)
-    at_byte (Some s) (bs, lit, fp, ft) n = (
+    pub at_other : (s : Option Star) → Passed p t s → b ≢ 47 → Onward p t s q u s
+    at_other None h n = (tt, (λ k. sym passed_byte k || false), fewer None h q u (ap length ep) shorter)
+    at_other (Some s) (bs, lit, fp, ft) n = (
       (bs ++ (b ∷ []), All-push _ bs b lit (plain, n), fp ∙ one_more _ _ bs ep, ft ∙ one_more _ _ bs et),
-      ap (λ x. x || longer p t (Some s)) (sym passed_byte),
+      ap (λ x. x || longer (Some s)) (sym passed_byte),
       omega (arith, ap length ep),
     )
 
-    pub at_either :
-        (s : Option Star) → Passed p t i j s
-        → Stepped p t (record { pattern = i; text = j; star = s }) (On (record { pattern = i + 1; text = j + 1; star = cond (eqb b 47) None s }))
-    at_either s h =
-        let P : Bool → Type 0 = λ x. Stepped p t (record { pattern = i; text = j; star = s }) (On (record { pattern = i + 1; text = j + 1; star = cond x None s })) in
-        ⊎_elim (λ e. subst P (sym (eq-eqb b 47 e)) (at_slash s h e)) (λ n. subst P (sym (ne_eqb b 47 n)) (at_byte s h n)) (cases_eq b 47)
+  module _ (b : ℕ) (q : List ℕ) (ep : p ≡ b ∷ q) (plain : b ≢ 42) where
+    pub fails_behind : length t ≡ 0 → matches p t ≡ false
+    fails_behind h = (λ k. matches (ep k) (no_item t h k)) ∙ matches_byte b q [] plain
 
-  module _ (b : ℕ) (ep : drop i p ≡ b ∷ drop (i + 1) p) where
-    pub fails_behind : drop j t ≡ [] → b ≢ 42 → matches (drop i p) (drop j t) ≡ false
-    fails_behind et plain = (λ k. matches (ep k) (et k)) ∙ matches_byte b (drop (i + 1) p) [] plain
+    pub fails_at : (c : ℕ) (u : List ℕ) → t ≡ c ∷ u → b ≢ c → matches p t ≡ false
+    fails_at c u et other = (λ k. matches (ep k) (et k)) ∙ matches_byte b q (c ∷ u) plain ∙ next_other b c (matches q) u other
 
-  pub fails_at :
-      (b c : ℕ) → drop i p ≡ b ∷ drop (i + 1) p → drop j t ≡ c ∷ drop (j + 1) t → b ≢ 42 → b ≢ c → matches (drop i p) (drop j t) ≡ false
-  fails_at b c ep et plain other =
-      (λ k. matches (ep k) (et k)) ∙ matches_byte b (drop (i + 1) p) (c ∷ drop (j + 1) t) plain ∙ next_other b c (matches (drop (i + 1) p)) (drop (j + 1) t) other
-
-  pub ends_together : (s : Option Star) → drop i p ≡ [] → length t ≤ j → Stepped p t (record { pattern = i; text = j; star = s }) (Answer true)
+  pub ends_together : (s : Option Star) → p ≡ [] → length t ≡ 0 → true ≡ (matches p t || longer s)
   unfolding matches
-  ends_together s ep h = λ k. matches (sym ep k) (sym (drop_all j t h) k) || longer p t s
+  ends_together s ep h = λ k. matches (sym ep k) (sym (no_item t h) k) || longer s
 
-  pub text_left : drop i p ≡ [] → j < length t → matches (drop i p) (drop j t) ≡ false
+  pub text_left : p ≡ [] → 0 < length t → matches p t ≡ false
   unfolding matches
-  text_left ep h = λ k. matches (ep k) (drop_more t j 0 h k)
+  text_left ep h = ap (λ x. matches x t) ep ∙ left t h
+    where
+      left : (t : List ℕ) → 0 < length t → matches [] t ≡ false
+      left [] h = absurd (omega arith)
+      left (c ∷ u) h = refl
 
-  module _ (fails : matches (drop i p) (drop j t) ≡ false) where
-    pub no_star : Stepped p t (record { pattern = i; text = j; star = None }) (Answer false)
-    no_star = ap (λ x. x || false) (sym fails)
-
+  module _ (fails : matches p t ≡ false) where
     -- what the star could stand for at the end of the text or at a slash
-    no_longer : (s : Star) → (drop s.at t ≡ []) ⊎ ((c : ℕ) × (drop s.at t ≡ c ∷ drop (s.at + 1) t) × (c ≡ 47)) → longer p t (Some s) ≡ false
+    no_longer : (s : Star) → (s.text.now ≡ []) ⊎ ((c : ℕ) × (u : List ℕ) × (s.text.now ≡ c ∷ u) × (c ≡ 47)) → longer (Some s) ≡ false
     unfolding further
-    no_longer s (inl e) = ap (further (matches (drop s.after p))) e
-    no_longer s (inr (c, e, h)) = ap (further (matches (drop s.after p))) (e ∙ ap (λ b. b ∷ drop (s.at + 1) t) h)
+    no_longer s (inl e) = ap (further (matches s.pattern.now)) e
+    no_longer s (inr (c, u, e, h)) = ap (further (matches s.pattern.now)) (e ∙ ap (λ b. b ∷ u) h)
+
+    given_up :
+        (s : Star) → (s.text.now ≡ []) ⊎ ((c : ℕ) × (u : List ℕ) × (s.text.now ≡ c ∷ u) × (c ≡ 47))
+        → false ≡ (matches p t || longer (Some s))
+    given_up s why = λ k. sym fails k || sym (no_longer s why) k
 
     again :
-        (s : Star) (c : ℕ) → drop s.at t ≡ c ∷ drop (s.at + 1) t → c ≢ 47
-        → Stepped p t (record { pattern = i; text = j; star = Some s })
-        (On (record { pattern = s.after; text = s.at + 1; star = Some (record { after = s.after; at = s.at + 1 }) }))
+        (s r : Star) (c : ℕ) → s.text.now ≡ c ∷ r.text.now → c ≢ 47 → r.pattern.now ≡ s.pattern.now
+        → Onward p t (Some s) r.pattern.now r.text.now (Some r)
     unfolding further
-    again s c e h =
-        let f = matches (drop s.after p) in
-        let u = drop (s.at + 1) t in
-        let more : (f u || further f u) ≡ further f (drop s.at t) = ap (λ b. not b && (f u || further f u)) (sym (ne_eqb c 47 h)) ∙ sym (ap (further f) e) in
-        let size : length (drop s.at t) * (1 + length (drop s.after p)) ≡ (1 + length u) * (1 + length (drop s.after p)) =
-        ap (λ n. n * (1 + length (drop s.after p))) (omega (arith, ap length e)) in
-        let split = add-mul 1 (length u) (1 + length (drop s.after p)) in
-        (([], tt, refl, refl), more ∙ ap (λ x. x || further f (drop s.at t)) (sym fails), omega arith)
+    again s r c e h same =
+        let f = matches s.pattern.now in
+        let u = r.text.now in
+        let more : (f u || further f u) ≡ further f s.text.now = ap (λ b. not b && (f u || further f u)) (sym (ne_eqb c 47 h)) ∙ sym (ap (further f) e) in
+        let size : length s.text.now * (1 + length s.pattern.now) ≡ (1 + length u) * (1 + length s.pattern.now) =
+        ap (λ n. n * (1 + length s.pattern.now)) (omega (arith, ap length e)) in
+        let split = add-mul 1 (length u) (1 + length s.pattern.now) in
+        let times : length u * (1 + length r.pattern.now) ≡ length u * (1 + length s.pattern.now) = ap (λ q. length u * (1 + length q)) same in
+        (
+          ([], tt, refl, refl),
+          ap (λ q. matches q u || further (matches q) u) same ∙ more ∙ ap (λ x. x || further f s.text.now) (sym fails),
+          omega (arith, ap length same),
+        )
 
-    pub retried : (s : Star) (r : Step) → Lengthened t s r → Stepped p t (record { pattern = i; text = j; star = Some s }) r
-    retried s (Answer b) (off, why) = off ∙ (λ k. sym fails k || sym (no_longer s why) k)
-    retried s (On v) (c, e, h, same) = subst (λ x. Stepped p t (record { pattern = i; text = j; star = Some s }) (On x)) (sym same) (again s c e h)
+module _ (p t : Bor (List ℕ)) (fails : matches p.now t.now ≡ false) where
+  pub retried : (s : Star) (r : ControlFlow Bool Walk) → Lengthened s r → Stepped (record { pattern = p; text = t; star = Some s }) r
+  retried s (Break b) (off, why) = off ∙ given_up p.now t.now fails s why
+  retried s (Continue v) (c, e, h, same, star) =
+      subst (λ r. Onward p.now t.now (Some s) v.pattern.now v.text.now r) (sym star)
+      (again p.now t.now fails s (record { pattern = v.pattern; text = v.text }) c e h same)

@@ -1,3 +1,4 @@
+pub mod Few
 pub mod Lists
 pub mod Pieces
 pub mod Texts

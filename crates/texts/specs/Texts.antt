@@ -33,6 +33,10 @@ abbrev pub slash_then : (List ℕ → Bool) → List ℕ → Bool
 slash_then test [] = false
 slash_then test (b ∷ t) = b == 47 && test t
 
+-- at most n bytes, which are allowed
+abbrev pub within : ℕ → (List ℕ → Bool) → List ℕ → Bool
+within n allowed t = nat_le (length t) n && allowed t
+
 -- '//' and two or three segments, at most 40 bytes
 abbrev pub identity : List ℕ → Bool
 identity t = nat_le (length t) 40 && slash_then (slash_then (path plain 2 3)) t

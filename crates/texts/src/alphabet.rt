@@ -1,6 +1,7 @@
 // Which bytes a text may have.
 ghost use Rattle.std.specs.Prelude.{◌≡◌};
 ghost use Rattle.texts.specs.Alphabets.{allowed};
+ghost use Rattle.texts.specs.Lists.{each};
 
 // Each has the visible bytes but '/' and '*', and perhaps one of these two.
 #[derive(Clone, Copy)]
@@ -22,5 +23,12 @@ impl Alphabet {
             Alphabet::Starred => visible & (b != b'/'),
             Alphabet::Slashed => visible & (b != b'*'),
         }
+    }
+
+    // Whether each byte of the text is in the alphabet.
+    pub(super) fn has_all(self, text: &[u8]) -> bool
+        ensures { result ≡ each (allowed self) text.now }
+    {
+        text.iter().all(|b| self.has(*b))
     }
 }

@@ -1,18 +1,30 @@
 // Identities: '//' and two or three segments, at most 40 bytes.
-ghost use Rattle.std.specs.Prelude.{◌≡◌, ◌≤◌, true, take};
-ghost use Rattle.texts.specs.Texts.{identity};
+ghost use Rattle.texts.specs.Alphabets.{allowed};
+ghost use Rattle.texts.specs.Grammar.{IdentityGrammar as GrammarOfIdentities};
+ghost use Rattle.texts.specs.Texts.{plain, path, slash_then};
 
-mod methods;
+use super::alphabet::Alphabet;
+use super::grammar::Grammar;
+use super::segments::{behind_slash, is_path};
+use super::text::Text;
 
-pub use methods::grammar_of_identities;
-
-const MAX_LEN: usize = 40;
-
-// The text is the first `len` bytes.
 #[derive(Clone, Copy)]
-pub struct Identity {
-    bytes: [u8; MAX_LEN],
-    len: usize,
-    ghost short: { len ≤ 40 },
-    ghost lawful: { identity (take len bytes) ≡ true },
+pub struct IdentityGrammar;
+
+pub type Identity = Text<IdentityGrammar, 40>;
+
+impl Grammar for IdentityGrammar {
+    ghost allowed = { slash_then (slash_then (path plain 2 3)) };
+
+    fn allows(text: &[u8]) -> bool {
+        match behind_slash(text).and_then(behind_slash) {
+            Some(path) => is_path(path, Alphabet::Plain, 2, 3),
+            None => false,
+        }
+    }
 }
+
+// The test of identities says yes of exactly the texts that the grammar describes.
+pub fn grammar_of_identities()
+    ensures { GrammarOfIdentities }
+{}

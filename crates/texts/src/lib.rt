@@ -3,23 +3,28 @@
 
 mod alphabet;
 mod domain;
+mod few;
 mod full_form;
+mod grammar;
 mod identity;
 mod matching;
 mod pattern;
 mod same;
 mod segments;
 mod standing;
-mod storage;
+mod text;
 mod unlawful;
 
-pub use domain::{Domain, is_domain};
+pub use domain::{Domain, DomainGrammar, is_domain};
+pub use few::{Few, Full};
 pub use full_form::FullForm;
-pub use identity::{Identity, grammar_of_identities};
+pub use grammar::Grammar;
+pub use identity::{Identity, IdentityGrammar, grammar_of_identities};
 pub use matching::{
     domain_covers, domain_matches, matching_is_replacing, pattern_covers, pattern_matches,
 };
 pub use pattern::is_pattern;
 pub use same::{same_decides, same_text};
-pub use standing::{Standing, is_standing};
+pub use standing::{Standing, StandingGrammar, is_standing};
+pub use text::Text;
 pub use unlawful::Unlawful;

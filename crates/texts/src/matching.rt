@@ -3,7 +3,7 @@ ghost use Rattle.std.specs.Prelude.{◌≡◌, false, ◌&&◌, ◌∷◌, ◌++
 ghost use Rattle.texts.specs.Matching.{matches as matches_text, begins, in_domain, Replacing};
 ghost use Rattle.texts.specs.Covering.{pattern_covers, domain_covers};
 ghost use Rattle.texts.specs.Texts.{full};
-ghost use Rattle.texts.specs.TextValues.{domain_text};
+ghost use Rattle.texts.specs.TextValues.{text_of};
 
 use super::domain::Domain;
 use super::full_form::{FullForm, is_absolute};
@@ -32,7 +32,7 @@ fn behind_name<'a>(text: &'a [u8], name: &[u8]) -> Option<&'a [u8]>
 // Whether the pattern, with this home domain, matches the text. The full form is not put together: its front has no
 // star, so the text has to begin with it, and the pattern has to match the rest.
 pub fn pattern_matches(home: &Domain, pattern: &[u8], text: &[u8]) -> bool
-    ensures { result ≡ matches_text (full (domain_text home.now) pattern.now) text.now }
+    ensures { result ≡ matches_text (full (text_of home.now) pattern.now) text.now }
 {
     if is_absolute(pattern) {
         return matches(pattern, text);
@@ -45,7 +45,7 @@ pub fn pattern_matches(home: &Domain, pattern: &[u8], text: &[u8]) -> bool
 
 // Whether the pattern covers another.
 pub fn pattern_covers(home: &Domain, pattern: &[u8], other: &[u8]) -> bool
-    ensures { result ≡ pattern_covers (domain_text home.now) pattern.now other.now }
+    ensures { result ≡ pattern_covers (text_of home.now) pattern.now other.now }
 {
     match FullForm::new(home, other) {
         Some(form) => pattern_matches(home, pattern, form.as_bytes()),
@@ -65,7 +65,7 @@ pub fn domain_matches(domain: &[u8], text: &[u8]) -> bool
 
 // Whether the domain covers the pattern.
 pub fn domain_covers(home: &Domain, domain: &[u8], pattern: &[u8]) -> bool
-    ensures { result ≡ domain_covers (domain_text home.now) domain.now pattern.now }
+    ensures { result ≡ domain_covers (text_of home.now) domain.now pattern.now }
 {
     match FullForm::new(home, pattern) {
         Some(form) => domain_matches(domain, form.as_bytes()),

@@ -11,12 +11,7 @@ const SLASH: u8 = b'/';
 pub(super) fn is_segment(text: &[u8], alphabet: Alphabet) -> bool
     ensures { result ≡ segment (allowed alphabet) text.now }
 {
-    for b in text {
-        if !alphabet.has(*b) {
-            return false;
-        }
-    }
-    !text.is_empty()
+    !text.is_empty() & alphabet.has_all(text)
 }
 
 // Whether the byte may come next in a path; `inside` says that the last one belongs to a segment.
@@ -56,8 +51,8 @@ pub(super) fn is_path(text: &[u8], alphabet: Alphabet, least: usize, most: usize
 pub(super) fn behind_slash(text: &[u8]) -> Option<&[u8]>
     ensures { MatchOption result (slash_then (λ _. true) text.now ≡ false) (λ rest. text.now ≡ 47 ∷ rest.now) }
 {
-    if text.is_empty() || text[0] != SLASH {
-        return None;
+    match text {
+        [b'/', rest @ ..] => Some(rest),
+        _ => None,
     }
-    Some(&text[1..])
 }

@@ -1,18 +1,27 @@
 // Standings: 1 to 40 visible bytes without '*'.
-ghost use Rattle.std.specs.Prelude.{◌≡◌, ◌≤◌, true, take};
-ghost use Rattle.texts.specs.Texts.{standing};
+ghost use Rattle.std.specs.Prelude.{◌≡◌};
+ghost use Rattle.texts.specs.Texts.{segment, slashed, standing};
 
-mod methods;
+use super::alphabet::Alphabet;
+use super::grammar::Grammar;
+use super::segments::is_segment;
+use super::text::Text;
 
-pub use methods::is_standing;
-
-const MAX_LEN: usize = 40;
-
-// The text is the first `len` bytes.
 #[derive(Clone, Copy)]
-pub struct Standing {
-    bytes: [u8; MAX_LEN],
-    len: usize,
-    ghost short: { len ≤ 40 },
-    ghost lawful: { standing (take len bytes) ≡ true },
+pub struct StandingGrammar;
+
+pub type Standing = Text<StandingGrammar, 40>;
+
+impl Grammar for StandingGrammar {
+    ghost allowed = { segment slashed };
+
+    fn allows(text: &[u8]) -> bool {
+        is_segment(text, Alphabet::Slashed)
+    }
+}
+
+pub fn is_standing(src: &[u8]) -> bool
+    ensures { result ≡ standing src.now }
+{
+    Standing::is_lawful(src)
 }

@@ -2,11 +2,19 @@
 ghost use Rattle.std.specs.Prelude.{◌≡◌};
 ghost use Rattle.bits.specs.declared.fault.Layer.TheVariants.{Register};
 
+use super::few::Full;
 use bits::{Layer, Report};
 
 // The bytes are no lawful text: refusal 13 of the register's layer.
 #[derive(Clone, Copy, Debug, PartialEq, Eq)]
 pub struct Unlawful;
+
+// Bytes that are too many for the text.
+impl From<Full> for Unlawful {
+    fn from(_: Full) -> Unlawful {
+        Unlawful
+    }
+}
 
 impl Unlawful {
     pub fn report(self) -> Report

@@ -1,168 +1,157 @@
 // The match of a pattern with a text, byte by byte. Only the last star is ever tried again, so that the steps are at most
 // about the product of the lengths: what an earlier star could take instead, the last one can take too.
-ghost use Rattle.std.specs.Prelude.{◌≡◌, ◌+◌, ◌^◌, ◌<◌, false, ◌≢◌, [], ◌∷◌, length, drop, if◌then◌else◌, Some, None, MatchOption, nat_eq};
+ghost use Rattle.std.specs.Prelude.{◌≡◌, false, ◌≢◌, [], ◌∷◌, Some};
 ghost use Rattle.texts.specs.Matching.{matches as matches_text};
 ghost use Rattle.texts.specs.Walks.{Sound, Stepped, Lengthened};
+
+use std::ops::ControlFlow;
 
 const SLASH: u8 = b'/';
 
 const STAR: u8 = b'*';
 
-// The last star that was passed: the place behind it in the pattern, and where what it stands for ends in the text.
+// The last star that was passed: the pattern behind it, and the text behind what it stands for.
 #[derive(Clone, Copy)]
-pub(crate) struct Star {
-    after: usize,
-    at: usize,
+pub(crate) struct Star<'a> {
+    pattern: &'a [u8],
+    text: &'a [u8],
 }
 
-// How far the match has come.
+// How far the match has come: what is left of the pattern and of the text.
 #[derive(Clone, Copy)]
-pub(crate) struct Walk {
-    pattern: usize,
-    text: usize,
-    star: Option<Star>,
+pub(crate) struct Walk<'a> {
+    pattern: &'a [u8],
+    text: &'a [u8],
+    star: Option<Star<'a>>,
 }
 
-#[derive(Clone, Copy)]
-pub(crate) enum Step {
-    On(Walk),
-    Answer(bool),
-}
+// A match goes on, or it ends with the answer.
+type Step<'a> = ControlFlow<bool, Walk<'a>>;
 
-fn byte_at(text: &[u8], i: usize) -> Option<u8>
-    ensures { MatchOption result (drop i text.now ≡ []) (λ b. (i < length text.now) × (drop i text.now ≡ b ∷ drop (i + 1) text.now)) }
-{
-    if i < text.len() { Some(text[i]) } else { None }
-}
-
-impl Walk {
+impl<'a> Walk<'a> {
     // One step of the match.
-    fn step(self, pattern: &[u8], text: &[u8]) -> Step
-        requires { Sound pattern.now text.now self }
-        ensures { Stepped pattern.now text.now self result }
+    fn step(self) -> Step<'a>
+        requires { Sound self }
+        ensures { Stepped self.entry result }
     {
-        match byte_at(pattern, self.pattern) {
-            Some(b) => {
-                if b == STAR {
-                    Step::On(self.behind_star())
+        match self.pattern {
+            [b, pattern @ ..] => {
+                if *b == STAR {
+                    self.behind_star(pattern)
                 } else {
-                    self.at_byte(b, pattern, text)
+                    self.at_byte(*b, pattern)
                 }
             }
-            None => self.at_end(pattern, text),
+            [] => self.at_end(),
         }
     }
 
     // A star stands for no byte at first.
-    fn behind_star(self) -> Walk
-        requires { self.pattern + 1 < 2 ^ 64 }
-        ensures { result ≡ record { pattern = self.pattern + 1; text = self.text; star = Some (record { after = self.pattern + 1; at = self.text }) } }
+    fn behind_star(self, pattern: &'a [u8]) -> Step<'a>
+        requires sound { Sound self }
+        requires here { self.pattern.now ≡ 42 ∷ pattern.now }
+        ensures { Stepped self.entry result }
     {
-        let after = self.pattern + 1;
-        Walk {
-            pattern: after,
+        let star = Star {
+            pattern,
             text: self.text,
-            star: Some(Star {
-                after,
-                at: self.text,
-            }),
-        }
+        };
+        ControlFlow::Continue(star.onward())
     }
 
     // At a byte of the pattern that is no star.
-    fn at_byte(self, b: u8, pattern: &[u8], text: &[u8]) -> Step
-        requires sound { Sound pattern.now text.now self }
-        requires here { drop self.pattern pattern.now ≡ b ∷ drop (self.pattern + 1) pattern.now }
-        requires inside { self.pattern < length pattern.now }
+    fn at_byte(self, b: u8, pattern: &'a [u8]) -> Step<'a>
+        requires sound { Sound self }
+        requires here { self.pattern.now ≡ b ∷ pattern.now }
         requires plain { b ≢ 42 }
-        ensures { Stepped pattern.now text.now self result }
+        ensures { Stepped self.entry result }
     {
-        match byte_at(text, self.text) {
-            Some(c) => {
-                if b == c {
-                    Step::On(self.behind_byte(b))
-                } else {
-                    self.retry(pattern, text)
+        match self.text {
+            [c, text @ ..] => {
+                if b != *c {
+                    return self.retry();
                 }
+                // No star stands for a slash, so behind one the stars before it are settled.
+                let star = if b == SLASH { None } else { self.star };
+                ControlFlow::Continue(Walk {
+                    pattern,
+                    text,
+                    star,
+                })
             }
-            None => self.retry(pattern, text),
-        }
-    }
-
-    // No star stands for a slash, so behind one the stars before it are settled.
-    fn behind_byte(self, b: u8) -> Walk
-        requires { (self.pattern + 1 < 2 ^ 64) × (self.text + 1 < 2 ^ 64) }
-        ensures { result ≡ record { pattern = self.pattern + 1; text = self.text + 1; star = (if nat_eq b 47 then None else self.star) } }
-    {
-        Walk {
-            pattern: self.pattern + 1,
-            text: self.text + 1,
-            star: if b == SLASH { None } else { self.star },
+            [] => self.retry(),
         }
     }
 
     // At the end of the pattern.
-    fn at_end(self, pattern: &[u8], text: &[u8]) -> Step
-        requires sound { Sound pattern.now text.now self }
-        requires done { drop self.pattern pattern.now ≡ [] }
-        ensures { Stepped pattern.now text.now self result }
+    fn at_end(self) -> Step<'a>
+        requires sound { Sound self }
+        requires done { self.pattern.now ≡ [] }
+        ensures { Stepped self.entry result }
     {
-        if self.text >= text.len() {
-            return Step::Answer(true);
+        if self.text.is_empty() {
+            return ControlFlow::Break(true);
         }
-        self.retry(pattern, text)
+        self.retry()
     }
 
     // The pattern does not match from here on: the last star is to stand for one byte more.
-    fn retry(self, pattern: &[u8], text: &[u8]) -> Step
-        requires { matches_text (drop self.pattern pattern.now) (drop self.text text.now) ≡ false }
-        ensures { Stepped pattern.now text.now self result }
+    fn retry(self) -> Step<'a>
+        requires { matches_text self.pattern.now self.text.now ≡ false }
+        ensures { Stepped self.entry result }
     {
         match self.star {
-            Some(star) => star.longer(text),
-            None => Step::Answer(false),
+            Some(star) => star.longer(),
+            None => ControlFlow::Break(false),
         }
     }
 }
 
-impl Star {
-    // The star stands for one byte more, unless a slash or the end of the text comes.
-    fn longer(self, text: &[u8]) -> Step
-        ensures { Lengthened text.now self result }
+impl<'a> Star<'a> {
+    // The match goes on behind the star.
+    fn onward(self) -> Walk<'a>
+        ensures { result ≡ record { pattern = self.entry.pattern; text = self.entry.text; star = Some self.entry } }
     {
-        match byte_at(text, self.at) {
-            Some(c) => {
-                if c == SLASH {
-                    return Step::Answer(false);
+        Walk {
+            pattern: self.pattern,
+            text: self.text,
+            star: Some(self),
+        }
+    }
+
+    // The star stands for one byte more, unless a slash or the end of the text comes.
+    fn longer(self) -> Step<'a>
+        ensures { Lengthened self.entry result }
+    {
+        match self.text {
+            [c, text @ ..] => {
+                if *c == SLASH {
+                    return ControlFlow::Break(false);
                 }
-                let star = Star {
-                    after: self.after,
-                    at: self.at + 1,
+                let longer = Star {
+                    pattern: self.pattern,
+                    text,
                 };
-                Step::On(Walk {
-                    pattern: star.after,
-                    text: star.at,
-                    star: Some(star),
-                })
+                ControlFlow::Continue(longer.onward())
             }
-            None => Step::Answer(false),
+            [] => ControlFlow::Break(false),
         }
     }
 }
 
 // Whether the pattern, as it is written, matches the text.
-pub(crate) fn matches(pattern: &[u8], text: &[u8]) -> bool
+pub(crate) fn matches<'a>(pattern: &'a [u8], text: &'a [u8]) -> bool
     ensures { result ≡ matches_text pattern.now text.now }
 {
     let mut walk = Walk {
-        pattern: 0,
-        text: 0,
+        pattern,
+        text,
         star: None,
     };
     loop {
-        match walk.step(pattern, text) {
-            Step::On(next) => walk = next,
-            Step::Answer(answer) => return answer,
+        match walk.step() {
+            ControlFlow::Continue(next) => walk = next,
+            ControlFlow::Break(answer) => return answer,
         }
     }
 }

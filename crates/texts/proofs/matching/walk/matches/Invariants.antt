@@ -4,7 +4,7 @@ use Rattle.texts.specs.Walks.{Sound, succeeds, steps_left}
 use Rattle.texts.proofs.matching.walk.matches.Given as goal
 
 abbrev pub invariant-loop-next : goal.invariant-loop-next
-invariant-loop-next l = Sound l.pattern l.text l.walk × (succeeds l.pattern l.text l.walk ≡ matches l.pattern l.text)
+invariant-loop-next l = Sound l.walk × (succeeds l.walk ≡ matches l.pattern l.text)
 
 abbrev pub decreases-loop-next : goal.decreases-loop-next
-decreases-loop-next l = steps_left l.pattern l.text l.walk
+decreases-loop-next l = steps_left l.walk

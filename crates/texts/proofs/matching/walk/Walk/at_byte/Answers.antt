@@ -1,20 +1,25 @@
-use Rattle.std.proofs.Common.{◌+◌, ◌∷◌, drop, sym, ap, ◌∙◌, subst}
-use Rattle.texts.specs.Walks.{Stepped}
-use Rattle.texts.specs.declared.matching.walk.Step.TheVariants.{On}
-use Rattle.texts.proofs.Walking.{fails_at, fails_behind, at_either}
+use Rattle.std.proofs.Common.{◌≡◌, ◌-◌, ◌∷◌, length, take, drop, Option, sym, ap, ◌∙◌, subst, rules}
+use Rattle.std.proofs.lemmas.Slice.{first_rest}
+use Rattle.texts.specs.declared.matching.walk.Star.{Star}
+use Rattle.texts.proofs.Walking.{Onward, fails_at, fails_behind, at_slash, at_other}
 use Rattle.texts.proofs.matching.walk.Walk.at_byte.Goals as goal
+use Rattle.texts.proofs.matching.walk.Walk.at_byte.Goals.{then-b-eq-SLASH, else-b-eq-SLASH}
 
 pub retry-requires : goal.retry-requires
 retry-requires c =
-    fails_at c.args.pattern.now c.args.text.now c.args.self.pattern c.args.self.text c.args.b c.in-Some.c c.requires.here c.in-Some.ensures.1 c.requires.plain c.if-b-c.false
+    fails_behind c.args.self.pattern.now c.args.self.text.now c.args.b c.args.pattern.now c.requires.here c.requires.plain (search rules)
 
-pub retry-requires-in-None : goal.retry-requires-in-None
-retry-requires-in-None c =
-    fails_behind c.args.pattern.now c.args.text.now c.args.self.pattern c.args.self.text c.args.b c.requires.here c.in-None.ensures c.requires.plain
+pub retry-requires-then-b-c : goal.retry-requires-then-b-c
+retry-requires-then-b-c c =
+    fails_at c.args.self.pattern.now c.args.self.text.now c.args.b c.args.pattern.now c.requires.here c.requires.plain _ _
+    (first_rest c.args.self.text.now 0 (search rules)) c.if-b-c.true
 
-pub returns-then-b-c : goal.returns-then-b-c
-returns-then-b-c c =
+pub returns-after-b-eq-SLASH : goal.returns-after-b-eq-SLASH
+returns-after-b-eq-SLASH c =
     let self = c.args.self in
-    let there = c.in-Some.ensures.1 ∙ ap (λ b. b ∷ drop (self.text + 1) c.args.text.now) (sym c.if-b-c.true) in
-    subst (λ v. Stepped c.args.pattern.now c.args.text.now self (On v)) (sym c.behind_byte.ensures)
-    (at_either c.args.pattern.now c.args.text.now self.pattern self.text c.args.b c.requires.here there c.requires.plain self.star c.requires.sound)
+    let here = first_rest self.text.now 0 (search rules) ∙ ap (λ b. b ∷ take (length self.text.now - 1) (drop 1 self.text.now)) (sym c.if-b-c.false) in
+    let P = λ (s : Option Star). Onward self.pattern.now self.text.now self.star c.args.pattern.now (take (length self.text.now - 1) (drop 1 self.text.now)) s in
+    elim c.if-b-eq-SLASH.branch [
+      | then-b-eq-SLASH w ↦ subst P (sym w.star-is) (at_slash _ _ c.args.b _ _ c.requires.here here c.requires.plain self.star c.requires.sound w.if-b-eq-SLASH.true)
+      | else-b-eq-SLASH w ↦ subst P (sym w.star-is) (at_other _ _ c.args.b _ _ c.requires.here here c.requires.plain self.star c.requires.sound w.if-b-eq-SLASH.false)
+    ]

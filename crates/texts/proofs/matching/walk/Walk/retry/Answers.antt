@@ -6,6 +6,5 @@ use Rattle.texts.proofs.matching.walk.Walk.retry.Goals as goal
 pub returns-in-Some : goal.returns-in-Some
 returns-in-Some c =
     let self = c.args.self in
-    subst (λ s. Stepped c.args.pattern.now c.args.text.now (record { pattern = self.pattern; text = self.text; star = s }) c.longer.result)
-    (sym c.in-Some.is)
-    (retried c.args.pattern.now c.args.text.now self.pattern self.text c.requires c.in-Some.star c.longer.result c.longer.ensures)
+    subst (λ s. Stepped (record { pattern = self.pattern; text = self.text; star = s }) c.longer.result) (sym c.in-Some.is)
+    (retried self.pattern self.text c.requires c.in-Some.star c.longer.result c.longer.ensures)

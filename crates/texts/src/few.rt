@@ -1,0 +1,76 @@
+// Lists of a few items, held in place, so that none of them allocates.
+ghost use Rattle.std.specs.Prelude.{◌≡◌, ◌+◌, ◌<◌, ◌≤◌, [], ◌∷◌, ◌++◌, length, take, drop, MatchResult};
+ghost use Rattle.texts.specs.Few.{listed};
+
+// At most `N` items. Those behind the first `len` stand for nothing.
+#[derive(Clone, Copy)]
+pub struct Few<T, const N: usize> {
+    items: [T; N],
+    len: usize,
+}
+
+// The items do not all have a place.
+#[derive(Clone, Copy, Debug, PartialEq, Eq)]
+pub struct Full;
+
+impl<T: Copy + Default, const N: usize> Few<T, N> {
+    pub fn new() -> Few<T, N>
+        ensures { listed result ≡ [] }
+    {
+        Few {
+            items: [T::default(); N],
+            len: 0,
+        }
+    }
+
+    // The items of a slice.
+    pub fn of(items: &[T]) -> Result<Few<T, N>, Full>
+        ensures { MatchResult result (λ x. (length items.now ≤ N) × (listed x ≡ items.now)) (λ _. N < length items.now) }
+    {
+        let mut few = Few::new();
+        few.extend(items)?;
+        Ok(few)
+    }
+}
+
+impl<T: Copy, const N: usize> Few<T, N> {
+    fn len(&self) -> usize
+        ensures { result ≡ length (listed self.now) }
+    {
+        self.len.min(N)
+    }
+
+    pub fn as_slice(&self) -> &[T]
+        ensures { result.now ≡ listed self.now }
+    {
+        let items = &self.items[..];
+        &items[..self.len()]
+    }
+
+    // Takes the items of a slice behind those that it has, all of them or none.
+    pub fn extend(&mut self, items: &[T]) -> Result<(), Full>
+        ensures { MatchResult result (λ _. (length (listed self.old) + length items.now ≤ N) × (listed self.new ≡ listed self.old ++ items.now)) (λ _. (N < length (listed self.old) + length items.now) × (self.new ≡ self.old)) }
+    {
+        let len = self.len();
+        if items.len() > N - len {
+            return Err(Full);
+        }
+        let end = len + items.len();
+        let places = &mut self.items[..];
+        places[len..end].copy_from_slice(items);
+        self.len = end;
+        Ok(())
+    }
+
+    pub fn push(&mut self, x: T) -> Result<(), Full>
+        ensures { MatchResult result (λ _. (length (listed self.old) < N) × (listed self.new ≡ listed self.old ++ (x ∷ []))) (λ _. (N ≤ length (listed self.old)) × (self.new ≡ self.old)) }
+    {
+        let len = self.len();
+        if len == N {
+            return Err(Full);
+        }
+        self.items[len] = x;
+        self.len = len + 1;
+        Ok(())
+    }
+}

@@ -1,0 +1,38 @@
+// Texts are tested once, where they are made.
+ghost use Rattle.std.specs.Prelude.{◌≡◌, true, false, MatchResult};
+ghost use Rattle.texts.specs.Texts.{within};
+ghost use Rattle.texts.specs.TextValues.{text_of};
+
+use super::super::few::Few;
+use super::super::grammar::Grammar;
+use super::super::unlawful::Unlawful;
+use super::Text;
+use std::marker::PhantomData;
+
+impl<G: Grammar, const N: usize> Text<G, N> {
+    pub fn new(src: &[u8]) -> Result<Text<G, N>, Unlawful>
+        ensures { MatchResult result (λ x. (within N G.allowed src.now ≡ true) × (text_of x ≡ src.now)) (λ _. within N G.allowed src.now ≡ false) }
+    {
+        let bytes = Few::of(src)?;
+        if !G::allows(src) {
+            return Err(Unlawful);
+        }
+        Ok(Text {
+            kind: PhantomData,
+            bytes,
+        })
+    }
+
+    // Whether the bytes are a text of this kind.
+    pub fn is_lawful(src: &[u8]) -> bool
+        ensures { result ≡ within N G.allowed src.now }
+    {
+        src.len() <= N && G::allows(src)
+    }
+
+    pub fn as_bytes(&self) -> &[u8]
+        ensures { result.now ≡ text_of self.now }
+    {
+        self.bytes.as_slice()
+    }
+}
