@@ -58,7 +58,7 @@ module _ (p t : List ℕ) where
   at_star s h r e same = (
     ([], tt, refl, sym same),
     (λ k. matches r.pattern.now t || further (matches r.pattern.now) (sym same k))
-    ∙ sym (absorbed _ _ (taken_over s h r.pattern.now e) ∙ ap (λ x. matches x t) e ∙ matches_star r.pattern.now t),
+        ∙ sym (absorbed _ _ (taken_over s h r.pattern.now e) ∙ ap (λ x. matches x t) e ∙ matches_star r.pattern.now t),
     fewer s h r.pattern.now r.text.now (ap length e) (omega (arith, ap length same)),
   )
 
@@ -131,8 +131,7 @@ module _ (p t : List ℕ) where
         let size : length s.text.now * (1 + length s.pattern.now) ≡ (1 + length u) * (1 + length s.pattern.now) =
         ap (λ n. n * (1 + length s.pattern.now)) (omega (arith, ap length e)) in
         let split = add-mul 1 (length u) (1 + length s.pattern.now) in
-        let times : length u * (1 + length r.pattern.now) ≡ length u * (1 + length s.pattern.now) = ap (λ q. length u * (1 + length q)) same in
-        (
+        let times : length u * (1 + length r.pattern.now) ≡ length u * (1 + length s.pattern.now) = ap (λ q. length u * (1 + length q)) same in (
           ([], tt, refl, refl),
           ap (λ q. matches q u || further (matches q) u) same ∙ more ∙ ap (λ x. x || further f s.text.now) (sym fails),
           omega (arith, ap length same),

@@ -34,8 +34,8 @@ slash_then test [] = false
 slash_then test (b ∷ t) = b == 47 && test t
 
 -- at most n bytes, which are allowed
-abbrev pub within : ℕ → (List ℕ → Bool) → List ℕ → Bool
-within n allowed t = nat_le (length t) n && allowed t
+abbrev pub lawful_text : ℕ → (List ℕ → Bool) → List ℕ → Bool
+lawful_text n allowed t = nat_le (length t) n && allowed t
 
 -- '//' and two or three segments, at most 40 bytes
 abbrev pub identity : List ℕ → Bool

@@ -23,10 +23,8 @@ fn behind<'a>(text: &'a [u8], front: &[u8]) -> Option<&'a [u8]>
 fn behind_name<'a>(text: &'a [u8], name: &[u8]) -> Option<&'a [u8]>
     ensures { MatchOption result (begins (47 ∷ 47 ∷ name.now) text.now ≡ false) (λ rest. text.now ≡ 47 ∷ 47 ∷ (name.now ++ rest.now)) }
 {
-    match behind(text, b"//") {
-        Some(rest) => behind(rest, name),
-        None => None,
-    }
+    let rest = behind(text, b"//")?;
+    behind(rest, name)
 }
 
 // Whether the pattern, with this home domain, matches the text. The full form is not put together: its front has no

@@ -1,7 +1,7 @@
 // Texts of a kind.
 ghost use Rattle.std.specs.Prelude.{◌≡◌, true};
 ghost use Rattle.texts.specs.Few.{listed};
-ghost use Rattle.texts.specs.Texts.{within};
+ghost use Rattle.texts.specs.Texts.{lawful_text};
 
 use super::few::Few;
 use super::grammar::Grammar;
@@ -14,7 +14,7 @@ mod methods;
 pub struct Text<G: Grammar, const N: usize> {
     kind: PhantomData<G>,
     bytes: Few<u8, N>,
-    ghost lawful: { within N G.allowed (listed bytes) ≡ true },
+    ghost lawful: { lawful_text N G.allowed (listed bytes) ≡ true },
 }
 
 impl<G: Grammar, const N: usize> Copy for Text<G, N> {}

@@ -1,6 +1,6 @@
 // Texts are tested once, where they are made.
 ghost use Rattle.std.specs.Prelude.{◌≡◌, true, false, MatchResult};
-ghost use Rattle.texts.specs.Texts.{within};
+ghost use Rattle.texts.specs.Texts.{lawful_text};
 ghost use Rattle.texts.specs.TextValues.{text_of};
 
 use super::super::few::Few;
@@ -11,7 +11,7 @@ use std::marker::PhantomData;
 
 impl<G: Grammar, const N: usize> Text<G, N> {
     pub fn new(src: &[u8]) -> Result<Text<G, N>, Unlawful>
-        ensures { MatchResult result (λ x. (within N G.allowed src.now ≡ true) × (text_of x ≡ src.now)) (λ _. within N G.allowed src.now ≡ false) }
+        ensures { MatchResult result (λ x. (lawful_text N G.allowed src.now ≡ true) × (text_of x ≡ src.now)) (λ _. lawful_text N G.allowed src.now ≡ false) }
     {
         let bytes = Few::of(src)?;
         if !G::allows(src) {
@@ -25,7 +25,7 @@ impl<G: Grammar, const N: usize> Text<G, N> {
 
     // Whether the bytes are a text of this kind.
     pub fn is_lawful(src: &[u8]) -> bool
-        ensures { result ≡ within N G.allowed src.now }
+        ensures { result ≡ lawful_text N G.allowed src.now }
     {
         src.len() <= N && G::allows(src)
     }

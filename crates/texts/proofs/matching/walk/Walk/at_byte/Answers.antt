@@ -1,4 +1,4 @@
-use Rattle.std.proofs.Common.{◌≡◌, ◌-◌, ◌∷◌, length, take, drop, Option, sym, ap, ◌∙◌, subst, rules}
+use Rattle.std.proofs.Common.{◌-◌, ◌∷◌, length, take, drop, Option, sym, ap, ◌∙◌, subst, rules}
 use Rattle.std.proofs.lemmas.Slice.{first_rest}
 use Rattle.texts.specs.declared.matching.walk.Star.{Star}
 use Rattle.texts.proofs.Walking.{Onward, fails_at, fails_behind, at_slash, at_other}
