@@ -4,7 +4,7 @@ use Rattle.std.specs.List.{flat_map}
 use Rattle.bits.specs.Digits.{digits}
 use Rattle.bits.specs.Codec.{Reads, field}
 use Rattle.texts.specs.Lists.{each}
-use Rattle.notes.specs.Few.{listed}
+use Rattle.texts.specs.Few.{listed}
 use Rattle.notes.specs.Readings.{guard, seq, made, times}
 use Rattle.calendar.specs.declared.civil.CivilTime.{CivilTime}
 use Rattle.notes.specs.Constraints.{list_admits_option, list_covers}

@@ -1,7 +1,6 @@
 pub mod Faults
 pub mod Readings
 pub mod Told
-pub mod Few
 pub mod Constraints
 pub mod Sets
 pub mod Operations

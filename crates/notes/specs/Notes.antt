@@ -1,24 +1,25 @@
 -- The laws of notes. Assumes nothing.
 use Rattle.std.specs.Prelude.{◌≡◌, ℕ, ◌<◌, ◌≤◌, true, List, length, take, drop, Ok, slice_index_or}
 use Rattle.bits.specs.Codec.{Bytes}
+use Rattle.texts.specs.Few.{listed}
 use Rattle.notes.specs.Rules.{RuleValue, rule_of, rule_lawful, note_reads, note_of}
 use Rattle.notes.specs.Originators.{OriginatorValue}
 use Rattle.notes.specs.declared.rule.PlainRule.{PlainRule}
 use Rattle.notes.specs.declared.rule.Rule.{Rule}
 
--- the note that a rule was read from
-abbrev pub rule_note : Rule → List ℕ
-rule_note r = take r.len r.note
-
--- what a rule says
-abbrev pub rule_value : Rule → RuleValue
-rule_value r = rule_of (rule_note r) r.parts
-
 abbrev pub plain_note : PlainRule → List ℕ
-plain_note r = take r.len r.note
+plain_note r = listed r.note
 
 abbrev pub plain_value : PlainRule → RuleValue
 plain_value r = rule_of (plain_note r) r.parts
+
+-- the note that a rule was read from
+abbrev pub rule_note : Rule → List ℕ
+rule_note r = plain_note r.plain
+
+-- what a rule says
+abbrev pub rule_value : Rule → RuleValue
+rule_value r = plain_value r.plain
 
 -- the front of a buffer is filled with the note, of length n, and the rest is as it was
 pub record Filled (note before after : List ℕ) (n : ℕ) : Type 0 where

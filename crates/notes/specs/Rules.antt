@@ -5,7 +5,7 @@ use Rattle.bits.specs.Digits.{digits, bits}
 use Rattle.bits.specs.Codec.{Reads, field, bytes_of}
 use Rattle.bits.specs.declared.fault.Report.{Report}
 use Rattle.notes.specs.Faults.{broken}
-use Rattle.notes.specs.Few.{listed}
+use Rattle.texts.specs.Few.{listed}
 use Rattle.texts.specs.Lists.{each}
 use Rattle.notes.specs.Readings.{seq, made, times}
 use Rattle.notes.specs.Contexts.{ContextValue, within, count_reads, context_of, context_lawful, context_form, context_reads}

@@ -2,7 +2,7 @@
 ghost use Rattle.std.specs.Prelude.{◌≡◌, ◌-◌, ◌/◌, ◌%◌, ◌^◌, ◌<◌};
 ghost use Rattle.bits.specs.Reader.{bytes, source, place};
 ghost use Rattle.notes.specs.declared.block.Block.{Block as BlockValue};
-ghost use Rattle.notes.specs.Told.{Told};
+ghost use Rattle.notes.specs.Told.{Read};
 ghost use Rattle.notes.specs.Blocks.{block_lawful, block_form, block_reads, prefix_reads, address_reads, same_prefix, block_admits, block_covers};
 ghost use Rattle.notes.specs.BlocksLemmas.{lawful_block, block_long, width_within, block_sound};
 ghost use Rattle.std.proofs.Common.{arith};
@@ -55,8 +55,7 @@ fn below(x: u128, n: u8) -> u128
 }
 
 fn read_prefix(r: &mut BitReader, family: Family) -> Result<u8, NoteFault>
-    ensures kept { bytes r.new ≡ bytes r.old }
-    ensures cases { Told (prefix_reads family) (source r.old) (place r.old) result (place r.new) }
+    ensures { Read (prefix_reads family) r.old result r.new }
 {
     let place = r.place();
     let v = r.take(8)?;
@@ -67,8 +66,7 @@ fn read_prefix(r: &mut BitReader, family: Family) -> Result<u8, NoteFault>
 }
 
 fn read_address(r: &mut BitReader, family: Family, prefix: u8) -> Result<u128, NoteFault>
-    ensures kept { bytes r.new ≡ bytes r.old }
-    ensures cases { Told (address_reads family prefix) (source r.old) (place r.old) result (place r.new) }
+    ensures { Read (address_reads family prefix) r.old result r.new }
 {
     let place = r.place();
     let v = r.take(family.width() as usize)?;
@@ -141,11 +139,11 @@ impl Constraint for Block {
     ghost sound = { block_sound };
 
     fn admits(&self, v: &Address) -> bool {
-        self.family.same(v.family) & self.same_prefix(v.bits)
+        (self.family == v.family) & self.same_prefix(v.bits)
     }
 
     fn covers(&self, other: &Block) -> bool {
         (self.prefix <= other.prefix)
-            & (self.family.same(other.family) & self.same_prefix(other.address))
+            & ((self.family == other.family) & self.same_prefix(other.address))
     }
 }

@@ -1,7 +1,8 @@
 // Constraints: packed items that admit values. What holds of lists of them is said and proved once, for every kind.
 ghost use Rattle.std.specs.Prelude.{◌≡◌, Bool, true, List, Option};
+ghost use Rattle.std.specs.Option.{option_copied};
 ghost use Rattle.texts.specs.Lists.{some, each};
-ghost use Rattle.notes.specs.Constraints.{offered, list_admits, list_admits_option, list_covers};
+ghost use Rattle.notes.specs.Constraints.{list_admits, list_admits_option, list_covers};
 
 use super::packed::Packed;
 
@@ -26,42 +27,29 @@ pub trait Constraint: Packed {
 fn one_admits<C: Constraint>(items: &[C], v: &C::Value) -> bool
     ensures { result ≡ some (λ x. C.admitted x v.now) items.now }
 {
-    for x in items {
-        if x.admits(v) {
-            return true;
-        }
-    }
-    false
+    items.iter().any(|x| x.admits(v))
 }
 
-// Whether a list admits a value that a request may lack: `there` says whether it has one.
-pub fn list_admits<C: Constraint>(items: &[C], there: bool, v: &C::Value) -> bool
-    ensures marked { result ≡ list_admits C.admitted items.now there v.now }
-    ensures offered { result ≡ list_admits_option C.admitted items.now (offered there v.now) }
+// Whether a list admits a value, which a request may lack.
+pub fn list_admits<C: Constraint>(items: &[C], v: Option<&C::Value>) -> bool
+    ensures { result ≡ list_admits_option C.admitted items.now (option_copied v.entry) }
 {
-    items.is_empty() | (there & one_admits(items, v))
+    match v {
+        Some(v) => items.is_empty() | one_admits(items, v),
+        None => items.is_empty(),
+    }
 }
 
 fn one_covers<C: Constraint>(items: &[C], other: &C) -> bool
     ensures { result ≡ some (λ x. C.covered x other.now) items.now }
 {
-    for x in items {
-        if x.covers(other) {
-            return true;
-        }
-    }
-    false
+    items.iter().any(|x| x.covers(other))
 }
 
 fn each_covered<C: Constraint>(items: &[C], others: &[C]) -> bool
     ensures { result ≡ each (λ y. some (λ x. C.covered x y) items.now) others.now }
 {
-    for y in others {
-        if !one_covers(items, y) {
-            return false;
-        }
-    }
-    true
+    others.iter().all(|y| one_covers(items, y))
 }
 
 // Whether a list covers another.

@@ -3,19 +3,19 @@ ghost use Rattle.std.specs.Prelude.{◌≡◌, ◌<◌, ◌≤◌, IfOk};
 ghost use Rattle.bits.specs.Reader.{bytes, source, place};
 ghost use Rattle.bits.specs.Writer.{Wrote};
 ghost use Rattle.notes.specs.Contexts.{ContextValue, context_of, context_lawful, context_form, context_reads, count_reads, counts_reads, counts_form};
-ghost use Rattle.notes.specs.Told.{Told, Fits};
+ghost use Rattle.notes.specs.Told.{Read, Fits};
 ghost use Rattle.notes.specs.ContextsLemmas.{lawful_context, context_long};
 ghost use Rattle.std.proofs.Common.{arith};
 
 use super::block::Block;
 use super::country::Country;
 use super::fault::NoteFault;
-use super::few::Few;
 use super::lists::{read_list, write_list};
 use super::packed::{Packed, Writable};
 use super::window::Window;
 use super::writing::put;
 use bits::{BitReader, BitWriter};
+use texts::Few;
 
 mod admitting;
 mod circumstances;
@@ -56,9 +56,8 @@ pub(super) fn read_count(
     high: u128,
 ) -> Result<usize, NoteFault>
     requires { high ≤ 4 }
-    ensures kept { bytes r.new ≡ bytes r.old }
+    ensures read { Read (count_reads width low high) r.old result r.new }
     ensures small { IfOk result (λ n. n ≤ high) }
-    ensures cases { Told (count_reads width low high) (source r.old) (place r.old) result (place r.new) }
 {
     let place = r.place();
     let n = r.take(width)?;
@@ -70,9 +69,8 @@ pub(super) fn read_count(
 
 impl Counts {
     fn read(r: &mut BitReader) -> Result<Counts, NoteFault>
-        ensures kept { bytes r.new ≡ bytes r.old }
+        ensures read { Read counts_reads r.old result r.new }
         ensures small { IfOk result (λ n. (n.windows ≤ 4) × (n.blocks ≤ 4) × (n.countries ≤ 2)) }
-        ensures cases { Told counts_reads (source r.old) (place r.old) result (place r.new) }
     {
         let windows = read_count(r, 3, 0, 4)?;
         let blocks = read_count(r, 3, 0, 4)?;
@@ -135,8 +133,8 @@ impl Packed for Context {
 impl Writable for Context {
     fn write(&self, w: &mut BitWriter) {
         self.write_counts(w);
-        write_list(self.windows.as_slice(), w);
-        write_list(self.blocks.as_slice(), w);
-        write_list(self.countries.as_slice(), w);
+        write_list(self.windows.as_slice(), &[], w);
+        write_list(self.blocks.as_slice(), &[], w);
+        write_list(self.countries.as_slice(), &[], w);
     }
 }

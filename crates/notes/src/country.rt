@@ -2,7 +2,7 @@
 ghost use Rattle.std.specs.Prelude.{◌≡◌, ◌<◌};
 ghost use Rattle.bits.specs.Reader.{bytes, source, place};
 ghost use Rattle.notes.specs.declared.country.Country.{Country as CountryValue};
-ghost use Rattle.notes.specs.Told.{Told};
+ghost use Rattle.notes.specs.Told.{Read};
 ghost use Rattle.notes.specs.Countries.{country_lawful, country_form, country_reads, country_same, letter_reads, upper};
 ghost use Rattle.notes.specs.CountriesLemmas.{lawful_country, country_long};
 ghost use Rattle.std.proofs.Common.{arith, rules};
@@ -44,8 +44,7 @@ fn is_upper(b: u8) -> bool
 }
 
 fn letter(r: &mut BitReader) -> Result<u8, NoteFault>
-    ensures kept { bytes r.new ≡ bytes r.old }
-    ensures cases { Told letter_reads (source r.old) (place r.old) result (place r.new) }
+    ensures { Read letter_reads r.old result r.new }
 {
     let place = r.place();
     let v = r.take(8)?;
@@ -102,7 +101,7 @@ impl Constraint for Country {
     ghost sound = { Prim.search rules };
 
     fn admits(&self, v: &Country) -> bool {
-        (self.first == v.first) & (self.second == v.second)
+        self == v
     }
 
     fn covers(&self, other: &Country) -> bool {

@@ -2,7 +2,7 @@
 ghost use Rattle.std.specs.Prelude.{◌≡◌};
 ghost use Rattle.bits.specs.Reader.{bytes, source, place};
 ghost use Rattle.notes.specs.Families.{width as width_of, same_family, code as code_of, family_reads};
-ghost use Rattle.notes.specs.Told.{Told};
+ghost use Rattle.notes.specs.Told.{Read};
 
 use super::fault::NoteFault;
 use bits::BitReader;
@@ -24,16 +24,6 @@ impl Family {
         }
     }
 
-    pub fn same(self, other: Family) -> bool
-        ensures { result ≡ same_family self other }
-    {
-        match (self, other) {
-            (Family::Four, Family::Four) => true,
-            (Family::Six, Family::Six) => true,
-            _ => false,
-        }
-    }
-
     pub(super) fn code(self) -> u128
         ensures { result ≡ code_of self }
     {
@@ -44,8 +34,7 @@ impl Family {
     }
 
     pub(super) fn read(r: &mut BitReader) -> Result<Family, NoteFault>
-        ensures kept { bytes r.new ≡ bytes r.old }
-        ensures cases { Told family_reads (source r.old) (place r.old) result (place r.new) }
+        ensures { Read family_reads r.old result r.new }
     {
         if r.take(1)? == 0 {
             Ok(Family::Four)

@@ -8,7 +8,6 @@ mod context;
 mod country;
 mod family;
 mod fault;
-mod few;
 mod laws;
 mod lists;
 mod operation;

@@ -2,7 +2,8 @@
 ghost use Rattle.std.specs.Prelude.{◌≡◌, ◌<◌};
 ghost use Rattle.notes.specs.Operations.{operation_number, has_operation};
 
-use super::set::has;
+use super::set::Set;
+use std::fmt;
 
 #[derive(Clone, Copy, PartialEq, Eq, Debug)]
 pub enum Operation {
@@ -15,6 +16,16 @@ pub enum Operation {
 }
 
 impl Operation {
+    // In the order of their numbers.
+    pub(super) const ALL: [Operation; 6] = [
+        Operation::Create,
+        Operation::Retrieve,
+        Operation::Update,
+        Operation::Delete,
+        Operation::Discover,
+        Operation::Notify,
+    ];
+
     // The place of the operation in a set of operations.
     pub fn number(self) -> u8
         ensures value { result ≡ operation_number self }
@@ -31,9 +42,22 @@ impl Operation {
     }
 
     // Whether the operation is in the set.
-    pub(super) fn is_in(self, operations: u8) -> bool
-        ensures { result ≡ has_operation operations self }
+    pub(super) fn is_in(self, operations: &Set<6>) -> bool
+        ensures { result ≡ has_operation operations.now self }
     {
-        has(operations as u128, 6, self.number())
+        operations.has(self.number())
+    }
+}
+
+impl fmt::Display for Operation {
+    fn fmt<W: fmt::Write>(&self, f: &mut fmt::Formatter<W>) -> fmt::Result {
+        f.write_str(match self {
+            Operation::Create => "create",
+            Operation::Retrieve => "retrieve",
+            Operation::Update => "update",
+            Operation::Delete => "delete",
+            Operation::Discover => "discover",
+            Operation::Notify => "notify",
+        })
     }
 }

@@ -2,48 +2,37 @@
 ghost use Rattle.std.specs.Prelude.{◌≡◌, ◌+◌, ◌/◌, ◌%◌, ◌<◌, length, IfOk, OnOk};
 ghost use Rattle.bits.specs.Reader.{bytes, source, place, Part};
 ghost use Rattle.bits.specs.Writer.{Wrote};
-ghost use Rattle.notes.specs.Originators.{originator_of, originator_form, originator_reads, kind_reads, length_reads, text_reads, text_lawful, code as code_of, part, entry_kind, entry_text, kind_entry};
-ghost use Rattle.notes.specs.Told.{Told, ToldAs, Fits};
+ghost use Rattle.notes.specs.Originators.{OriginatorValue, originator_of, originator_form, originator_reads, kind_reads, length_reads, text_reads, text_lawful, code as code_of, part};
+ghost use Rattle.notes.specs.Told.{Read, ReadAs, Fits};
 
 use super::fault::NoteFault;
+use super::lists::Item;
 use super::writing::{put, put_bytes};
 use bits::{BitReader, BitWriter};
 use texts::{is_domain, is_pattern, is_standing};
 
 mod words;
 
-// The place is the number of the text's first byte in the note.
-#[derive(Clone, Copy)]
-pub enum Entry {
-    All,
-    Pattern { place: usize, len: usize },
-    Domain { place: usize, len: usize },
-    Standing { place: usize, len: usize },
-}
-
-#[derive(Clone, Copy)]
-pub struct Originator {
-    entry: Entry,
-}
-
-#[derive(Clone, Copy)]
+#[derive(Clone, Copy, Default, PartialEq, Eq, Debug)]
 pub enum EntryKind {
+    #[default]
     All,
     Pattern,
     Domain,
     Standing,
 }
 
-impl Default for Originator {
-    fn default() -> Originator {
-        Originator { entry: Entry::All }
-    }
+// The place is the number of the text's first byte in the note.
+#[derive(Clone, Copy, Default)]
+pub struct Originator {
+    kind: EntryKind,
+    place: usize,
+    len: usize,
 }
 
 impl EntryKind {
     fn read(r: &mut BitReader) -> Result<EntryKind, NoteFault>
-        ensures kept { bytes r.new ≡ bytes r.old }
-        ensures cases { Told kind_reads (source r.old) (place r.old) result (place r.new) }
+        ensures { Read kind_reads r.old result r.new }
     {
         match r.take(2)? {
             0 => Ok(EntryKind::All),
@@ -66,8 +55,7 @@ impl EntryKind {
 
     // The length of the text.
     fn read_length(self, r: &mut BitReader) -> Result<usize, NoteFault>
-        ensures kept { bytes r.new ≡ bytes r.old }
-        ensures cases { Told (length_reads self) (source r.old) (place r.old) result (place r.new) }
+        ensures { Read (length_reads self) r.old result r.new }
     {
         let place = r.place();
         let n = r.take(6)?;
@@ -95,9 +83,8 @@ impl EntryKind {
     // The text, as a part of the note.
     fn read_text<'a>(self, r: &mut BitReader<'a>, len: usize) -> Result<&'a [u8], NoteFault>
         requires { place r.old % 8 ≡ 0 }
-        ensures kept { bytes r.new ≡ bytes r.old }
+        ensures read { ReadAs (λ t. t.now) (text_reads self len) r.old result r.new }
         ensures part { IfOk result (λ t. Part (bytes r.old) (place r.old) len t.now) }
-        ensures cases { ToldAs (λ t. t.now) (text_reads self len) (source r.old) (place r.old) result (place r.new) }
     {
         let place = r.place();
         let text = r.part(len)?;
@@ -106,47 +93,10 @@ impl EntryKind {
         }
         Ok(text)
     }
-
-    // An entry of this kind, with a text at a place of the note.
-    fn entry(self, place: usize, len: usize) -> Entry
-        ensures { result ≡ kind_entry self place len }
-    {
-        match self {
-            EntryKind::All => Entry::All,
-            EntryKind::Pattern => Entry::Pattern { place, len },
-            EntryKind::Domain => Entry::Domain { place, len },
-            EntryKind::Standing => Entry::Standing { place, len },
-        }
-    }
-}
-
-impl Entry {
-    fn kind(self) -> EntryKind
-        ensures { result ≡ entry_kind self }
-    {
-        match self {
-            Entry::All => EntryKind::All,
-            Entry::Pattern { .. } => EntryKind::Pattern,
-            Entry::Domain { .. } => EntryKind::Domain,
-            Entry::Standing { .. } => EntryKind::Standing,
-        }
-    }
-
-    // The text, as a part of the note.
-    fn text(self, note: &[u8]) -> &[u8]
-        ensures { result.now ≡ entry_text note.now self }
-    {
-        match self {
-            Entry::All => part_of(note, 0, 0),
-            Entry::Pattern { place, len } => part_of(note, place, len),
-            Entry::Domain { place, len } => part_of(note, place, len),
-            Entry::Standing { place, len } => part_of(note, place, len),
-        }
-    }
 }
 
 // At most `len` bytes from `place` on, as far as the note has them.
-pub(super) fn part_of(note: &[u8], place: usize, len: usize) -> &[u8]
+fn part_of(note: &[u8], place: usize, len: usize) -> &[u8]
     ensures { result.now ≡ part note.now place len }
 {
     let start = place.min(note.len());
@@ -156,39 +106,42 @@ pub(super) fn part_of(note: &[u8], place: usize, len: usize) -> &[u8]
 
 impl Originator {
     pub fn kind(&self) -> EntryKind
-        ensures { result ≡ entry_kind self.now.entry }
+        ensures { result ≡ self.now.kind }
     {
-        self.entry.kind()
+        self.kind
     }
 
     // The text, as a part of the note.
     pub fn text<'a>(&self, note: &'a [u8]) -> &'a [u8]
         ensures { result.now ≡ (originator_of note.now self.now).text }
     {
-        self.entry.text(note)
+        part_of(note, self.place, self.len)
     }
+}
 
-    pub(super) fn read(r: &mut BitReader) -> Result<Originator, NoteFault>
-        requires { place r.old % 8 ≡ 0 }
-        ensures kept { bytes r.new ≡ bytes r.old }
-        ensures aligned { OnOk result (place r.new % 8 ≡ 0) }
-        ensures cases { ToldAs (originator_of (bytes r.old)) originator_reads (source r.old) (place r.old) result (place r.new) }
-    {
+impl Item for Originator {
+    ghost value = { OriginatorValue };
+
+    ghost meant = { originator_of };
+
+    ghost form = { originator_form };
+
+    ghost reads = { originator_reads };
+
+    // The text stands in whole bytes, so that the entry begins with one.
+    ghost begins = { λ p. p % 8 ≡ 0 };
+
+    fn read_item(r: &mut BitReader) -> Result<Originator, NoteFault> {
         let kind = EntryKind::read(r)?;
         let len = kind.read_length(r)?;
-        let first = r.place() / 8;
+        let place = (r.place() / 8) as usize;
         kind.read_text(r, len)?;
-        Ok(Originator {
-            entry: kind.entry(first as usize, len),
-        })
+        Ok(Originator { kind, place, len })
     }
 
-    pub(super) fn write(&self, note: &[u8], w: &mut BitWriter)
-        requires { Fits w.old (length (originator_form (originator_of note.now self.now))) }
-        ensures { Wrote w.old w.new (originator_form (originator_of note.now self.now)) }
-    {
-        let text = self.entry.text(note);
-        put(w, 2, self.entry.kind().code());
+    fn write_item(&self, note: &[u8], w: &mut BitWriter) {
+        let text = self.text(note);
+        put(w, 2, self.kind.code());
         put(w, 6, text.len() as u128);
         put_bytes(w, text);
     }

@@ -4,7 +4,7 @@ ghost use Rattle.bits.specs.Codec.{Lawful};
 ghost use Rattle.bits.specs.Reader.{bytes, source, place};
 ghost use Rattle.bits.specs.Writer.{Wrote};
 ghost use Rattle.bits.specs.declared.fault.Report.{Report};
-ghost use Rattle.notes.specs.Told.{ToldAs, Fits};
+ghost use Rattle.notes.specs.Told.{ReadAs, Fits};
 
 use super::fault::NoteFault;
 use bits::{BitReader, BitWriter};
@@ -34,8 +34,7 @@ pub trait Packed: Copy + Default {
         ensures { result ≡ least };
 
     fn read(r: &mut BitReader) -> Result<Self, NoteFault>
-        ensures kept { bytes r.new ≡ bytes r.old }
-        ensures cases { ToldAs meant reads (source r.old) (place r.old) result (place r.new) };
+        ensures { ReadAs meant reads r.old result r.new };
 
     // The form of a lawful value reads back as that value, and what is read has that form.
     ghost round: { Lawful (λ x. lawful x ≡ true) form reads };

@@ -1,10 +1,12 @@
 // A rule: one permission.
-ghost use Rattle.std.specs.Prelude.{◌≡◌, ◌≤◌, true, take};
+ghost use Rattle.std.specs.Prelude.{◌≡◌, true};
 ghost use Rattle.notes.specs.Rules.{rule_of, rule_lawful, note_of};
+ghost use Rattle.texts.specs.Few.{listed};
 
 use super::context::Context;
-use super::few::Few;
 use super::originator::Originator;
+use super::set::Set;
+use texts::Few;
 
 mod note;
 mod parts;
@@ -26,7 +28,7 @@ pub enum Side {
 pub struct Head {
     side: Side,
     authenticated: bool,
-    operations: u8,
+    operations: Set<6>,
     originators: usize,
     contexts: usize,
     child_types: usize,
@@ -37,28 +39,23 @@ pub struct Head {
 pub struct RuleParts {
     side: Side,
     authenticated: bool,
-    operations: u8,
+    operations: Set<6>,
     originators: Few<Originator, 4>,
     child_types: Few<u16, 4>,
     contexts: Few<Context, 2>,
 }
 
-// A rule as a row of a table holds it: the note, of which the first `len` bytes count, and the parts, with no promise that
-// they belong together.
+// A rule as a row of a table holds it: the note and the parts, with no promise that they belong together.
 #[derive(Clone, Copy)]
 pub struct PlainRule {
-    note: [u8; 615],
-    len: usize,
+    note: Few<u8, 615>,
     parts: RuleParts,
 }
 
 // A rule, with the note that it was read from. There is no other rule: each is some note's.
 #[derive(Clone, Copy)]
 pub struct Rule {
-    note: [u8; 615],
-    len: usize,
-    parts: RuleParts,
-    ghost short: { len ≤ 615 },
-    ghost lawful: { rule_lawful (rule_of (take len note) parts) ≡ true },
-    ghost same: { note_of (rule_of (take len note) parts) ≡ take len note },
+    plain: PlainRule,
+    ghost lawful: { rule_lawful (rule_of (listed plain.note) plain.parts) ≡ true },
+    ghost same: { note_of (rule_of (listed plain.note) plain.parts) ≡ listed plain.note },
 }

@@ -1,37 +1,77 @@
 // Sets of the numbers below a width.
-ghost use Rattle.std.specs.Prelude.{◌≡◌, ◌^◌, ◌<◌, ◌≤◌, IfOk};
-ghost use Rattle.bits.specs.Reader.{bytes, source, place};
-ghost use Rattle.notes.specs.Told.{Told};
+ghost use Rattle.std.specs.Prelude.{◌≡◌, ◌-◌, ◌^◌, ◌<◌, ◌≤◌, nat_eq};
+ghost use Rattle.bits.specs.Digits.{digits};
+ghost use Rattle.bits.specs.Writer.{Wrote};
+ghost use Rattle.notes.specs.Told.{Read, Fits};
 ghost use Rattle.notes.specs.Sets.{member, contains as contains_of, set_reads};
 
 use super::fault::NoteFault;
-use bits::BitReader;
+use super::writing::put;
+use bits::{BitReader, BitWriter};
+use std::marker::Model;
 
-// Whether the number `v` is in the set.
-pub(super) fn has(set: u128, width: u8, v: u8) -> bool
-    requires { (v < width) × (width ≤ 128) }
-    ensures { result ≡ member width «set» v }
-{
-    (set >> (width - 1 - v)) % 2 == 1
+// A set of the numbers below `W`, seen as the number that its digits spell: of its `W` binary digits the first stands for 0.
+#[derive(Clone, Copy, Default)]
+pub struct Set<const W: usize> {
+    bits: u128,
 }
 
-// Whether each number of the other set is in this one.
-pub(super) fn contains(own: u128, other: u128) -> bool
-    ensures { result ≡ contains_of own other }
-{
-    own & other == other
+impl<const W: usize> Model for Set<W> {
+    ghost use Rattle.std.specs.Prelude.{ℕ};
+
+    ghost Value = { ℕ };
+
+    ghost view = { λ s. s.bits };
+
+    ghost inverse = { λ n. record { bits = n } };
 }
 
-// A set that is not empty.
-pub(super) fn read_set(r: &mut BitReader, width: usize) -> Result<u128, NoteFault>
-    ensures kept { bytes r.new ≡ bytes r.old }
-    ensures small { IfOk result (λ v. v < 2 ^ width) }
-    ensures cases { Told (set_reads width) (source r.old) (place r.old) result (place r.new) }
-{
-    let place = r.place();
-    let set = r.take(width)?;
-    if set == 0 {
-        return Err(NoteFault::EmptySet { place });
+impl<const W: usize> Set<W> {
+    pub(super) fn of(bits: u128) -> Set<W>
+        ensures { result ≡ bits }
+    {
+        Set { bits }
     }
-    Ok(set)
+
+    // A set that is not empty.
+    pub(super) fn read(r: &mut BitReader) -> Result<Set<W>, NoteFault>
+        ensures { Read (set_reads W) r.old result r.new }
+    {
+        let place = r.place();
+        let bits = r.take(W)?;
+        if bits == 0 {
+            return Err(NoteFault::EmptySet { place });
+        }
+        Ok(Set::of(bits))
+    }
+
+    pub(super) fn write(&self, w: &mut BitWriter)
+        requires { (W ≤ 128) × (Fits w.old W) }
+        ensures { Wrote w.old w.new (digits W self.now) }
+    {
+        put(w, W, self.bits);
+    }
+
+    // Whether the number `v` is in the set.
+    pub(super) fn has(&self, v: u8) -> bool
+        requires { (v < W) × (W ≤ 128) }
+        ensures { result ≡ member W self.now v }
+    {
+        (self.bits >> (W - 1 - v as usize)) % 2 == 1
+    }
+
+    // Whether each number of the other set is in this one.
+    pub(super) fn contains(&self, other: &Set<W>) -> bool
+        ensures { result ≡ contains_of self.now other.now }
+    {
+        self.bits & other.bits == other.bits
+    }
+
+    // Whether the set has every number below the width.
+    pub(super) fn is_full(&self) -> bool
+        requires { W < 128 }
+        ensures { result ≡ nat_eq self.now (2 ^ W - 1) }
+    {
+        self.bits == (1 << W) - 1
+    }
 }

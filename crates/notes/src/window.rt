@@ -4,7 +4,7 @@ ghost use Rattle.bits.specs.Reader.{bytes, source, place};
 ghost use Rattle.bits.specs.Writer.{Wrote};
 ghost use Rattle.calendar.specs.Civil.{Valid};
 ghost use Rattle.notes.specs.declared.window.Window.{Window as WindowValue};
-ghost use Rattle.notes.specs.Told.{Told, Fits};
+ghost use Rattle.notes.specs.Told.{Read, Fits};
 ghost use Rattle.notes.specs.Windows.{clock_form, clock_reads, clock_admits, clock_contains};
 ghost use Rattle.notes.specs.Windows.{date_form, date_reads, date_admits, date_contains};
 ghost use Rattle.notes.specs.Windows.{window_lawful, window_form, window_reads, window_admits, window_covers};
@@ -14,8 +14,7 @@ ghost use Rattle.std.proofs.Common.{arith};
 use super::constraint::Constraint;
 use super::fault::NoteFault;
 use super::packed::{Packed, Writable};
-use super::set::{contains, has, read_set};
-use super::writing::put;
+use super::set::Set;
 use bits::{BitReader, BitWriter};
 use calendar::{CivilTime, Instant};
 
@@ -23,17 +22,17 @@ pub(super) mod words;
 
 #[derive(Clone, Copy, Default)]
 pub struct ClockSets {
-    seconds: u64,
-    minutes: u64,
-    hours: u32,
+    seconds: Set<60>,
+    minutes: Set<60>,
+    hours: Set<24>,
 }
 
 #[derive(Clone, Copy, Default)]
 pub struct DateSets {
-    days: u32,
-    months: u16,
-    weekdays: u8,
-    years: u128,
+    days: Set<31>,
+    months: Set<12>,
+    weekdays: Set<7>,
+    years: Set<100>,
 }
 
 #[derive(Clone, Copy, Default)]
@@ -44,56 +43,51 @@ pub struct Window {
 
 impl ClockSets {
     fn read(r: &mut BitReader) -> Result<ClockSets, NoteFault>
-        ensures kept { bytes r.new ≡ bytes r.old }
-        ensures cases { Told clock_reads (source r.old) (place r.old) result (place r.new) }
+        ensures { Read clock_reads r.old result r.new }
     {
-        let seconds = read_set(r, 60)? as u64;
-        let minutes = read_set(r, 60)? as u64;
-        let hours = read_set(r, 24)? as u32;
+        let seconds = Set::read(r)?;
+        let minutes = Set::read(r)?;
+        let hours = Set::read(r)?;
         Ok(ClockSets {
             seconds,
             minutes,
             hours,
         })
     }
-}
 
-impl ClockSets {
     fn write(&self, w: &mut BitWriter)
         requires { Fits w.old (length (clock_form self.now)) }
         ensures { Wrote w.old w.new (clock_form self.now) }
     {
-        put(w, 60, self.seconds as u128);
-        put(w, 60, self.minutes as u128);
-        put(w, 24, self.hours as u128);
+        self.seconds.write(w);
+        self.minutes.write(w);
+        self.hours.write(w);
     }
 
     fn admits(&self, time: CivilTime) -> bool
         requires { Valid time }
         ensures { result ≡ clock_admits self.now time }
     {
-        has(self.seconds as u128, 60, time.second)
-            & (has(self.minutes as u128, 60, time.minute) & has(self.hours as u128, 24, time.hour))
+        self.seconds.has(time.second)
+            & (self.minutes.has(time.minute) & self.hours.has(time.hour))
     }
 
     fn contains(&self, other: &ClockSets) -> bool
         ensures { result ≡ clock_contains self.now other.now }
     {
-        contains(self.seconds as u128, other.seconds as u128)
-            & (contains(self.minutes as u128, other.minutes as u128)
-                & contains(self.hours as u128, other.hours as u128))
+        self.seconds.contains(&other.seconds)
+            & (self.minutes.contains(&other.minutes) & self.hours.contains(&other.hours))
     }
 }
 
 impl DateSets {
     fn read(r: &mut BitReader) -> Result<DateSets, NoteFault>
-        ensures kept { bytes r.new ≡ bytes r.old }
-        ensures cases { Told date_reads (source r.old) (place r.old) result (place r.new) }
+        ensures { Read date_reads r.old result r.new }
     {
-        let days = read_set(r, 31)? as u32;
-        let months = read_set(r, 12)? as u16;
-        let weekdays = read_set(r, 7)? as u8;
-        let years = read_set(r, 100)?;
+        let days = Set::read(r)?;
+        let months = Set::read(r)?;
+        let weekdays = Set::read(r)?;
+        let years = Set::read(r)?;
         Ok(DateSets {
             days,
             months,
@@ -101,36 +95,32 @@ impl DateSets {
             years,
         })
     }
-}
 
-impl DateSets {
     fn write(&self, w: &mut BitWriter)
         requires { Fits w.old (length (date_form self.now)) }
         ensures { Wrote w.old w.new (date_form self.now) }
     {
-        put(w, 31, self.days as u128);
-        put(w, 12, self.months as u128);
-        put(w, 7, self.weekdays as u128);
-        put(w, 100, self.years);
+        self.days.write(w);
+        self.months.write(w);
+        self.weekdays.write(w);
+        self.years.write(w);
     }
 
     fn admits(&self, time: CivilTime) -> bool
         requires { Valid time }
         ensures { result ≡ date_admits self.now time }
     {
-        has(self.days as u128, 31, time.day - 1)
-            & (has(self.months as u128, 12, time.month - 1)
-                & (has(self.weekdays as u128, 7, time.weekday)
-                    & has(self.years, 100, (time.year - 2000) as u8)))
+        self.days.has(time.day - 1)
+            & (self.months.has(time.month - 1)
+                & (self.weekdays.has(time.weekday) & self.years.has((time.year - 2000) as u8)))
     }
 
     fn contains(&self, other: &DateSets) -> bool
         ensures { result ≡ date_contains self.now other.now }
     {
-        contains(self.days as u128, other.days as u128)
-            & (contains(self.months as u128, other.months as u128)
-                & (contains(self.weekdays as u128, other.weekdays as u128)
-                    & contains(self.years, other.years)))
+        self.days.contains(&other.days)
+            & (self.months.contains(&other.months)
+                & (self.weekdays.contains(&other.weekdays) & self.years.contains(&other.years)))
     }
 }
 

@@ -1,6 +1,5 @@
 // What a context admits, and what it covers.
 ghost use Rattle.std.specs.Prelude.{◌≡◌};
-ghost use Rattle.notes.specs.Constraints.{offered};
 ghost use Rattle.notes.specs.Contexts.{context_of, context_admits, context_covers};
 ghost use Rattle.notes.specs.Sound.{context_sound};
 
@@ -10,16 +9,16 @@ use super::{Circumstances, Context};
 impl Constraint for Context {
     type Value = Circumstances;
 
-    ghost admitted = { λ c v. context_admits (context_of c) v.instant.civil (offered v.has_address v.address) (offered v.has_country v.country) };
+    ghost admitted = { λ c v. context_admits (context_of c) v.instant.civil v.address v.country };
 
     ghost covered = { λ c d. context_covers (context_of c) (context_of d) };
 
-    ghost sound = { λ a b v. context_sound (context_of a) (context_of b) v.instant.civil (offered v.has_address v.address) (offered v.has_country v.country) };
+    ghost sound = { λ a b v. context_sound (context_of a) (context_of b) v.instant.civil v.address v.country };
 
     fn admits(&self, v: &Circumstances) -> bool {
-        list_admits(self.windows.as_slice(), true, &v.instant)
-            & (list_admits(self.blocks.as_slice(), v.has_address, &v.address)
-                & list_admits(self.countries.as_slice(), v.has_country, &v.country))
+        list_admits(self.windows.as_slice(), Some(&v.instant))
+            & (list_admits(self.blocks.as_slice(), v.address.as_ref())
+                & list_admits(self.countries.as_slice(), v.country.as_ref()))
     }
 
     fn covers(&self, other: &Context) -> bool {

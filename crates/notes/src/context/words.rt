@@ -1,6 +1,6 @@
 // A context in words: its lists that are not empty.
 ghost use Rattle.std.specs.Prelude.{◌≡◌, ◌&&◌};
-ghost use Rattle.notes.specs.Few.{listed};
+ghost use Rattle.texts.specs.Few.{listed};
 ghost use Rattle.texts.specs.Lists.{none};
 
 use super::Context;

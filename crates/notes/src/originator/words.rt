@@ -2,27 +2,34 @@
 use super::{EntryKind, Originator};
 use std::fmt;
 
-fn write_text<W: fmt::Write>(text: &[u8], f: &mut fmt::Formatter<W>) -> fmt::Result {
-    for byte in text {
-        f.write_char(char::from(*byte))?;
-    }
-    Ok(())
+// An originator with the note in which its text stands.
+#[derive(Clone, Copy)]
+pub(crate) struct InNote<'a> {
+    kind: EntryKind,
+    text: &'a [u8],
 }
 
 impl Originator {
-    // The texts stand in the note.
-    pub(crate) fn write_words<W: fmt::Write>(
-        &self,
-        note: &[u8],
-        f: &mut fmt::Formatter<W>,
-    ) -> fmt::Result {
-        let kind = match self.entry.kind() {
+    pub(crate) fn in_note<'a>(&self, note: &'a [u8]) -> InNote<'a> {
+        InNote {
+            kind: self.kind,
+            text: self.text(note),
+        }
+    }
+}
+
+impl fmt::Display for InNote<'_> {
+    fn fmt<W: fmt::Write>(&self, f: &mut fmt::Formatter<W>) -> fmt::Result {
+        let kind = match self.kind {
             EntryKind::All => return f.write_str("all"),
             EntryKind::Pattern => "pattern ",
             EntryKind::Domain => "domain ",
             EntryKind::Standing => "standing ",
         };
         f.write_str(kind)?;
-        write_text(self.entry.text(note), f)
+        for byte in self.text {
+            f.write_char(char::from(*byte))?;
+        }
+        Ok(())
     }
 }

@@ -1,13 +1,17 @@
 // Rules and their notes.
-ghost use Rattle.std.specs.Prelude.{◌≡◌, ◌≤◌, true, false, length, take, Ok, Err, MatchOption, MatchResult};
+ghost use Rattle.std.specs.Prelude.{◌≡◌, ◌<◌, ◌≤◌, true, false, length, take, Ok, Err, MatchOption, MatchResult, slice_index_or};
 ghost use Rattle.bits.specs.Reader.{bytes, source, place};
 ghost use Rattle.notes.specs.Faults.{report as report_of, broken};
 ghost use Rattle.notes.specs.Notes.{rule_value, rule_note, TextOf, NoText};
+ghost use Rattle.texts.specs.Few.{listed};
+ghost use Rattle.notes.specs.Originators.{originator_of};
+ghost use Rattle.notes.specs.declared.originator.Originator.{Originator as OriginatorRecord};
 ghost use Rattle.notes.specs.Rules.{padded, note_reads, rule_of};
 
 use super::super::fault::NoteFault;
-use super::{Rule, RuleParts};
+use super::{PlainRule, Rule, RuleParts};
 use bits::BitReader;
+use texts::Few;
 
 // Nothing follows but zero bits up to the end of a byte.
 fn read_padding(r: &mut BitReader) -> Result<(), NoteFault>
@@ -35,27 +39,16 @@ fn read_parts(note: &[u8]) -> Result<RuleParts, NoteFault>
     Ok(parts)
 }
 
-// The bytes at the front of an array.
-fn kept(note: &[u8]) -> [u8; 615]
-    requires { length note.now ≤ 615 }
-    ensures { take (length note.now) result ≡ note.now }
-{
-    let mut bytes = [0u8; 615];
-    bytes[0..note.len()].copy_from_slice(note);
-    bytes
-}
-
 impl Rule {
     // The rule of a note.
     pub fn read(note: &[u8]) -> Result<Rule, NoteFault>
         ensures { MatchResult result (λ x. (rule_note x ≡ note.now) × (note_reads note.now ≡ Ok (rule_value x))) (λ e. note_reads note.now ≡ Err (report_of e)) }
     {
         let parts = read_parts(note)?;
-        let len = note.len();
+        // No note of a rule is longer.
+        let note = Few::of(note).unwrap();
         Ok(Rule {
-            note: kept(note),
-            len,
-            parts,
+            plain: PlainRule { note, parts },
         })
     }
 
@@ -63,7 +56,16 @@ impl Rule {
     pub fn note(&self) -> &[u8]
         ensures { result.now ≡ rule_note self.now }
     {
-        &self.note[0..self.len]
+        self.plain.note()
+    }
+}
+
+impl RuleParts {
+    // The text of the originator `i`.
+    fn text_at<'a>(&self, note: &'a [u8], i: usize) -> Option<&'a [u8]>
+        ensures { MatchOption result (length (listed self.now.originators) ≤ i) (λ t. (i < length (listed self.now.originators)) × ((o : OriginatorRecord) → (originator_of note.now (slice_index_or (listed self.now.originators) i o)).text ≡ t.now)) }
+    {
+        self.originators().get(i).map(|o| o.text(note))
     }
 }
 
@@ -71,10 +73,9 @@ impl Rule {
 pub fn originator_text(note: &[u8], i: usize) -> Result<Option<&[u8]>, NoteFault>
     ensures { MatchResult result (λ found. MatchOption found (NoText note.now i) (λ t. TextOf note.now i t.now)) (λ e. note_reads note.now ≡ Err (report_of e)) }
 {
-    let parts = read_parts(note)?;
-    let originators = parts.originators.as_slice();
-    if i >= originators.len() {
-        return Ok(None);
+    // Not by `?`: the check cannot make its plan of the way on that carries the parts.
+    match read_parts(note) {
+        Ok(parts) => Ok(parts.text_at(note, i)),
+        Err(fault) => Err(fault),
     }
-    Ok(Some(originators[i].text(note)))
 }

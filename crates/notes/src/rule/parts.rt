@@ -1,27 +1,13 @@
 // The parts of a rule, one by one.
 ghost use Rattle.std.specs.Prelude.{◌≡◌};
-ghost use Rattle.notes.specs.Few.{listed};
+ghost use Rattle.texts.specs.Few.{listed};
 ghost use Rattle.notes.specs.Operations.{has_operation};
-ghost use Rattle.notes.specs.Rules.{same_side};
 ghost use Rattle.notes.specs.Sets.{contains as contains_of};
 
 use super::super::context::Context;
 use super::super::operation::Operation;
 use super::super::originator::Originator;
-use super::super::set::contains;
 use super::{Rule, RuleParts, Side};
-
-impl Side {
-    pub fn same(self, other: Side) -> bool
-        ensures { result ≡ same_side self other }
-    {
-        match (self, other) {
-            (Side::Privileges, Side::Privileges) => true,
-            (Side::SelfPrivileges, Side::SelfPrivileges) => true,
-            _ => false,
-        }
-    }
-}
 
 impl RuleParts {
     pub fn side(&self) -> Side
@@ -40,14 +26,14 @@ impl RuleParts {
     pub fn has_operation(&self, operation: Operation) -> bool
         ensures { result ≡ has_operation self.now.operations operation }
     {
-        operation.is_in(self.operations)
+        operation.is_in(&self.operations)
     }
 
     // Whether each operation of the other rule is one of this.
     pub fn has_operations_of(&self, other: &RuleParts) -> bool
         ensures { result ≡ contains_of self.now.operations other.now.operations }
     {
-        contains(self.operations as u128, other.operations as u128)
+        self.operations.contains(&other.operations)
     }
 
     pub fn originators(&self) -> &[Originator]
@@ -71,8 +57,8 @@ impl RuleParts {
 
 impl Rule {
     pub fn parts(&self) -> &RuleParts
-        ensures { result.now ≡ self.now.parts }
+        ensures { result.now ≡ self.now.plain.parts }
     {
-        &self.parts
+        self.plain.parts()
     }
 }

@@ -2,9 +2,9 @@
 ghost use Rattle.std.specs.Prelude.{◌≡◌, []};
 ghost use Rattle.notes.specs.Notes.{rule_note, rule_value, plain_note, plain_value};
 
-use super::super::few::Few;
-use super::super::originator::part_of;
+use super::super::set::Set;
 use super::{PlainRule, Rule, RuleParts, Side};
+use texts::Few;
 
 impl PlainRule {
     // What a row holds that no rule was put into.
@@ -12,12 +12,11 @@ impl PlainRule {
         ensures { plain_note result ≡ [] }
     {
         PlainRule {
-            note: [0; 615],
-            len: 0,
+            note: Few::new(),
             parts: RuleParts {
                 side: Side::Privileges,
                 authenticated: false,
-                operations: 0,
+                operations: Set::default(),
                 originators: Few::new(),
                 child_types: Few::new(),
                 contexts: Few::new(),
@@ -28,7 +27,7 @@ impl PlainRule {
     pub fn note(&self) -> &[u8]
         ensures { result.now ≡ plain_note self.now }
     {
-        part_of(&self.note, 0, self.len)
+        self.note.as_slice()
     }
 
     pub fn parts(&self) -> &RuleParts
@@ -44,10 +43,6 @@ impl Rule {
         ensures note { plain_note result ≡ rule_note self.now }
         ensures value { plain_value result ≡ rule_value self.now }
     {
-        PlainRule {
-            note: self.note,
-            len: self.len,
-            parts: self.parts,
-        }
+        self.plain
     }
 }

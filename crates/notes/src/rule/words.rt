@@ -1,41 +1,17 @@
 // A rule in words.
 use super::super::context::words::write_list;
+use super::super::operation::Operation;
 use super::super::originator::Originator;
-use super::super::set::has;
 use super::{Rule, RuleParts, Side};
 use std::fmt;
 
-fn operation_name(v: u8) -> &'static str {
-    match v {
-        0 => "create",
-        1 => "retrieve",
-        2 => "update",
-        3 => "delete",
-        4 => "discover",
-        _ => "notify",
+impl fmt::Display for Side {
+    fn fmt<W: fmt::Write>(&self, f: &mut fmt::Formatter<W>) -> fmt::Result {
+        f.write_str(match self {
+            Side::Privileges => "privileges",
+            Side::SelfPrivileges => "selfPrivileges",
+        })
     }
-}
-
-fn side_name(side: Side) -> &'static str {
-    match side {
-        Side::Privileges => "privileges",
-        Side::SelfPrivileges => "selfPrivileges",
-    }
-}
-
-// The operations are a set of the numbers 0 to 5.
-fn write_operations<W: fmt::Write>(operations: u8, f: &mut fmt::Formatter<W>) -> fmt::Result {
-    let mut any = false;
-    for v in 0..6 {
-        if has(operations as u128, 6, v) {
-            if any {
-                f.write_char(',')?;
-            }
-            any = true;
-            f.write_str(operation_name(v))?;
-        }
-    }
-    if any { Ok(()) } else { f.write_str("none") }
 }
 
 fn write_originators<W: fmt::Write>(
@@ -43,23 +19,29 @@ fn write_originators<W: fmt::Write>(
     note: &[u8],
     f: &mut fmt::Formatter<W>,
 ) -> fmt::Result {
-    let mut any = false;
-    for originator in items {
-        if any {
-            f.write_str(", ")?;
-        }
-        any = true;
-        originator.write_words(note, f)?;
-    }
-    Ok(())
+    f.write_joined(items.iter().map(|o| o.in_note(note)), ", ")
 }
 
 impl RuleParts {
+    fn write_operations<W: fmt::Write>(&self, f: &mut fmt::Formatter<W>) -> fmt::Result {
+        let mut any = false;
+        for operation in Operation::ALL {
+            if self.has_operation(operation) {
+                if any {
+                    f.write_char(',')?;
+                }
+                any = true;
+                write!(f, "{operation}")?;
+            }
+        }
+        if any { Ok(()) } else { f.write_str("none") }
+    }
+
     // The texts of the originators stand in the note.
     fn write_words<W: fmt::Write>(&self, note: &[u8], f: &mut fmt::Formatter<W>) -> fmt::Result {
-        f.write_str(side_name(self.side))?;
-        f.write_char(' ')?;
-        write_operations(self.operations, f)?;
+        let side = self.side;
+        write!(f, "{side} ")?;
+        self.write_operations(f)?;
         f.write_str(" from ")?;
         write_originators(self.originators.as_slice(), note, f)?;
         if self.authenticated {
@@ -73,6 +55,6 @@ impl RuleParts {
 impl fmt::Display for Rule {
     fn fmt<W: fmt::Write>(&self, f: &mut fmt::Formatter<W>) -> fmt::Result {
         f.write_str("rule ")?;
-        self.parts.write_words(self.note(), f)
+        self.parts().write_words(self.note(), f)
     }
 }

@@ -4,14 +4,12 @@ ghost use Rattle.std.specs.List.{flat_map};
 ghost use Rattle.bits.specs.Writer.{Wrote};
 ghost use Rattle.notes.specs.Notes.{rule_note, Filled};
 ghost use Rattle.notes.specs.Originators.{originator_of, originator_form};
-ghost use Rattle.notes.specs.Rules.{side_code, flag_code, head_of, head_form, rule_of, rule_form};
+ghost use Rattle.notes.specs.Rules.{side_code, head_of, head_form, rule_of, rule_form};
 ghost use Rattle.notes.specs.Told.{Fits};
 
 use super::super::lists::write_list;
-use super::super::originator::Originator;
 use super::super::writing::put;
 use super::{Head, Rule, RuleParts, Side};
-use crate::packed::Writable;
 use bits::BitWriter;
 
 impl Side {
@@ -25,32 +23,17 @@ impl Side {
     }
 }
 
-fn flag_code(flag: bool) -> u128
-    ensures { result ≡ flag_code flag }
-{
-    if flag { 1 } else { 0 }
-}
-
 impl Head {
     fn write(&self, w: &mut BitWriter)
         requires { Fits w.old 16 }
         ensures { Wrote w.old w.new (head_form self.now) }
     {
         put(w, 1, self.side.code());
-        put(w, 1, flag_code(self.authenticated));
-        put(w, 6, self.operations as u128);
+        put(w, 1, u8::from(self.authenticated) as u128);
+        self.operations.write(w);
         put(w, 3, self.originators as u128);
         put(w, 2, self.contexts as u128);
         put(w, 3, self.child_types as u128);
-    }
-}
-
-fn write_originators(items: &[Originator], note: &[u8], w: &mut BitWriter)
-    requires { Fits w.old (length (flat_map (λ o. originator_form (originator_of note.now o)) items.now)) }
-    ensures { Wrote w.old w.new (flat_map (λ o. originator_form (originator_of note.now o)) items.now) }
-{
-    for o in items {
-        o.write(note, w);
     }
 }
 
@@ -74,9 +57,9 @@ impl RuleParts {
         ensures { Wrote w.old w.new (rule_form (rule_of note.now self.now)) }
     {
         self.head().write(w);
-        write_originators(self.originators.as_slice(), note, w);
-        write_list(self.child_types.as_slice(), w);
-        write_list(self.contexts.as_slice(), w);
+        write_list(self.originators.as_slice(), note, w);
+        write_list(self.child_types.as_slice(), note, w);
+        write_list(self.contexts.as_slice(), note, w);
     }
 }
 
@@ -86,7 +69,7 @@ impl Rule {
         ensures { Filled (rule_note self.now) out.old out.new result }
     {
         let mut w = BitWriter::new(out);
-        self.parts.write(self.note(), &mut w);
+        self.plain.parts.write(self.note(), &mut w);
         // Zero bits up to a whole byte.
         let end = w.place();
         let size = (end + 7) / 8;

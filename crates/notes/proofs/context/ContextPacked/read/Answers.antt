@@ -2,7 +2,7 @@ use Rattle.std.proofs.Common.{◌≡◌, Ok, ap, ◌∙◌}
 use Rattle.std.proofs.lemmas.List.{map-id}
 use Rattle.bits.specs.Digits.{bits}
 use Rattle.bits.specs.Reader.{source, place}
-use Rattle.notes.specs.Few.{listed}
+use Rattle.texts.specs.Few.{listed}
 use Rattle.notes.specs.Readings.{seq, mapped, times}
 use Rattle.notes.specs.Windows.{window_reads}
 use Rattle.notes.specs.Blocks.{block_reads}
@@ -17,10 +17,10 @@ returns c =
     let ws = listed c.in_ok-windows.windows in
     let bs = listed c.in_ok-blocks.blocks in
     let cs = listed c.in_ok-countries.countries in
-    let one = c.in_ok-counts.ensures in
-    let two = c.in_ok-windows.ensures in
-    let three = c.in_ok-blocks.ensures in
-    let four = c.in_ok-countries.ensures in
+    let one = c.in_ok-counts.ensures.read in
+    let two = c.in_ok-windows.ensures.read in
+    let three = c.in_ok-blocks.ensures.read in
+    let four = c.in_ok-countries.ensures.read in
     let at0 = place c.args.r.now in
     let at1 = place c.read.new.r in
     let at2 = place c.read_list.new.r in

@@ -11,7 +11,7 @@ use Rattle.notes.proofs.rule.Rule.write_to.Goals as goal
 pub write-requires : goal.write-requires
 write-requires c =
     let self = c.args.self.now in
-    omega (arith, rule_short (rule_value self) self.lawful, ap (λ l. length (rule_form (rule_of l self.parts))) c.note.ensures, ap length c.new-w.ensures.bytes, c.new-w.ensures.start)
+    omega (arith, rule_short (rule_value self) self.lawful, ap (λ l. length (rule_form (rule_of l self.plain.parts))) c.note.ensures, ap length c.new-w.ensures.bytes, c.new-w.ensures.start)
 
 pub returns : goal.returns
 returns c =
@@ -19,7 +19,7 @@ returns c =
     let r = rule_value self in
     let first = c.new-w.result in
     let last = c.put.new.w in
-    let form-is : rule_form (rule_of c.note.result.now self.parts) ≡ rule_form r = ap (λ l. rule_form (rule_of l self.parts)) c.note.ensures in
+    let form-is : rule_form (rule_of c.note.result.now self.plain.parts) ≡ rule_form r = ap (λ l. rule_form (rule_of l self.plain.parts)) c.note.ensures in
     let one : Wrote first c.write.new.w (rule_form r) = subst (Wrote first c.write.new.w) form-is c.write.ensures in
     let at : c.place-end.result ≡ length (rule_form r) = c.place-end.ensures ∙ omega (arith, one.moved, c.new-w.ensures.start) in
     let pad-is : (c.place-end.result + 7) / 8 * 8 - c.place-end.result ≡ pad (length (rule_form r)) = omega arith in

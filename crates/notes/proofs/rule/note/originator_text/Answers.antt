@@ -1,33 +1,31 @@
-use Rattle.std.proofs.Common.{◌≡◌, ◌<◌, length, get_or, take, drop, sym, ap, ◌∙◌, subst, arith}
+use Rattle.std.proofs.Common.{◌≡◌, ℕ, ◌<◌, ◌≤◌, List, length, get_or, take, drop, Ok, Some, None, Option, sym, ap, ◌∙◌, subst, arith, Bor, MatchOption, slice_index_or}
 use Rattle.std.proofs.lemmas.List.{get_or-map, length-map}
-use Rattle.notes.specs.Few.{listed}
-use Rattle.notes.specs.Originators.{originator_of, entry_text}
-use Rattle.notes.specs.Rules.{rule_of}
-use Rattle.notes.specs.declared.originator.Entry.TheVariants.{All}
+use Rattle.texts.specs.Few.{listed}
+use Rattle.notes.specs.Notes.{TextOf, NoText}
+use Rattle.notes.specs.Originators.{originator_of}
+use Rattle.notes.specs.OriginatorsLemmas.{part_place}
+use Rattle.notes.specs.Rules.{note_reads, rule_of}
+use Rattle.notes.specs.declared.originator.EntryKind.TheVariants.{All}
 use Rattle.notes.specs.declared.originator.Originator.{Originator}
-use Rattle.notes.specs.OriginatorsLemmas.{text_place}
+use Rattle.notes.specs.declared.rule.RuleParts.{RuleParts}
 use Rattle.notes.proofs.rule.note.originator_text.Goals as goal
 
-pub returns-then-i-originators : goal.returns-then-i-originators
-returns-then-i-originators c =
-    let note = c.args.note.now in
-    let parts = c.in_ok-parts.parts in
-    (rule_of note parts, c.in_ok-parts.ensures, omega (arith, length-map (listed parts.originators) (originator_of note), ap length c.as_slice-originators.ensures))
-
-pub returns : goal.returns
-returns c =
-    let note = c.args.note.now in
-    let parts = c.in_ok-parts.parts in
-    let i = c.args.i in
-    let items = listed parts.originators in
-    let spare : Originator = record { entry = All } in
-    let there : i < length items = omega (arith, ap length c.as_slice-originators.ensures) in
-    let text-is : c.text.result.now ≡ entry_text note (get_or items i spare).entry = c.text.ensures ∙ ap (λ l. entry_text note (get_or l i spare).entry) c.as_slice-originators.ensures in
-    let spot = text_place note (get_or items i spare).entry in (
-      rule_of note parts,
-      spot.0,
-      c.in_ok-parts.ensures,
+-- a text of the parts is a text of the note's rule
+told : (note : List ℕ) (p : RuleParts) (i : ℕ) → note_reads note ≡ Ok (rule_of note p) → (r : Option (Bor (List ℕ)))
+    → MatchOption r (length (listed p.originators) ≤ i) (λ t. (i < length (listed p.originators)) × ((o : Originator) → (originator_of note (slice_index_or (listed p.originators) i o)).text ≡ t.now))
+    → MatchOption r (NoText note i) (λ t. TextOf note i t.now)
+told note p i read None none = (rule_of note p, read, omega (arith, length-map (listed p.originators) (originator_of note)))
+told note p i read (Some t) (there, says) =
+    let items = listed p.originators in
+    let spare : Originator = record { kind = All; place = 0; len = 0 } in
+    let o = get_or items i spare in (
+      rule_of note p,
+      o.place,
+      read,
       omega (arith, length-map items (originator_of note)),
-      (λ o. ap (λ v. v.text) (get_or-map (originator_of note) items i spare o there) ∙ sym text-is),
-      subst (λ t. t ≡ take (length t) (drop spot.0 note)) (sym text-is) spot.1,
+      (λ d. ap (λ v. v.text) (get_or-map (originator_of note) items i spare d there) ∙ says spare),
+      subst (λ x. x ≡ take (length x) (drop o.place note)) (says spare) (part_place note o.place o.len),
     )
+
+pub returns-in-Ok : goal.returns-in-Ok
+returns-in-Ok c = told c.args.note.now c.in-Ok.parts c.args.i c.in-Ok.ensures c.text_at.result c.text_at.ensures
