@@ -22,22 +22,11 @@ pub struct Address {
     pub bits: u128,
 }
 
-#[derive(Clone, Copy)]
+#[derive(Clone, Copy, Default)]
 pub struct Block {
     family: Family,
     prefix: u8,
     address: u128,
-}
-
-// What stands behind the end of a list of blocks.
-impl Default for Block {
-    fn default() -> Block {
-        Block {
-            family: Family::Four,
-            prefix: 0,
-            address: 0,
-        }
-    }
 }
 
 // The bits of `x` above its lowest `n`.
@@ -79,7 +68,7 @@ fn read_address(r: &mut BitReader, family: Family, prefix: u8) -> Result<u128, N
 impl Packed for Block {
     const LEAST_WIDTH: usize = 41;
 
-    ghost least = { 41 };
+    ghost LEAST_WIDTH = { 41 };
 
     ghost value = { BlockValue };
 
@@ -95,10 +84,6 @@ impl Packed for Block {
 
     ghost shortest = { λ x h. omega (arith, block_long x, width_within x.family) };
 
-    fn min_width() -> usize {
-        Self::LEAST_WIDTH
-    }
-
     fn read(r: &mut BitReader) -> Result<Block, NoteFault> {
         let family = Family::read(r)?;
         let prefix = read_prefix(r, family)?;
@@ -113,7 +98,7 @@ impl Packed for Block {
 
 impl Writable for Block {
     fn write(&self, w: &mut BitWriter) {
-        put(w, 1, self.family.code());
+        put(w, 1, u128::from(self.family));
         put(w, 8, self.prefix as u128);
         put(w, self.family.width() as usize, self.address);
     }

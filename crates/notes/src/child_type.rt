@@ -16,7 +16,7 @@ use bits::{BitReader, BitWriter};
 impl Packed for u16 {
     const LEAST_WIDTH: usize = 16;
 
-    ghost least = { 16 };
+    ghost LEAST_WIDTH = { 16 };
 
     ghost value = { ℕ };
 
@@ -31,10 +31,6 @@ impl Packed for u16 {
     ghost round = { lawful_type };
 
     ghost shortest = { λ x h. omega (arith, length_digits 16 x) };
-
-    fn min_width() -> usize {
-        Self::LEAST_WIDTH
-    }
 
     fn read(r: &mut BitReader) -> Result<u16, NoteFault> {
         Ok(r.take(16)? as u16)

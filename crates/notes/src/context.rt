@@ -23,7 +23,7 @@ pub(super) mod words;
 
 pub use circumstances::Circumstances;
 
-#[derive(Clone, Copy)]
+#[derive(Clone, Copy, Default)]
 pub struct Context {
     windows: Few<Window, 4>,
     blocks: Few<Block, 4>,
@@ -36,16 +36,6 @@ pub struct Counts {
     windows: usize,
     blocks: usize,
     countries: usize,
-}
-
-impl Default for Context {
-    fn default() -> Context {
-        Context {
-            windows: Few::new(),
-            blocks: Few::new(),
-            countries: Few::new(),
-        }
-    }
 }
 
 // A count from `low` to `high`.
@@ -97,7 +87,7 @@ impl Context {
 impl Packed for Context {
     const LEAST_WIDTH: usize = 8;
 
-    ghost least = { 8 };
+    ghost LEAST_WIDTH = { 8 };
 
     ghost value = { ContextValue };
 
@@ -112,10 +102,6 @@ impl Packed for Context {
     ghost round = { lawful_context };
 
     ghost shortest = { λ x h. omega (arith, context_long x) };
-
-    fn min_width() -> usize {
-        Self::LEAST_WIDTH
-    }
 
     fn read(r: &mut BitReader) -> Result<Context, NoteFault> {
         let counts = Counts::read(r)?;

@@ -57,7 +57,7 @@ fn letter(r: &mut BitReader) -> Result<u8, NoteFault>
 impl Packed for Country {
     const LEAST_WIDTH: usize = 16;
 
-    ghost least = { 16 };
+    ghost LEAST_WIDTH = { 16 };
 
     ghost value = { CountryValue };
 
@@ -72,10 +72,6 @@ impl Packed for Country {
     ghost round = { lawful_country };
 
     ghost shortest = { λ x h. omega (arith, country_long x) };
-
-    fn min_width() -> usize {
-        Self::LEAST_WIDTH
-    }
 
     fn read(r: &mut BitReader) -> Result<Country, NoteFault> {
         let first = letter(r)?;

@@ -7,8 +7,9 @@ ghost use Rattle.notes.specs.Told.{Read};
 use super::fault::NoteFault;
 use bits::BitReader;
 
-#[derive(Clone, Copy, PartialEq, Eq, Debug)]
+#[derive(Clone, Copy, Default, PartialEq, Eq, Debug)]
 pub enum Family {
+    #[default]
     Four,
     Six,
 }
@@ -24,15 +25,6 @@ impl Family {
         }
     }
 
-    pub(super) fn code(self) -> u128
-        ensures { result ≡ code_of self }
-    {
-        match self {
-            Family::Four => 0,
-            Family::Six => 1,
-        }
-    }
-
     pub(super) fn read(r: &mut BitReader) -> Result<Family, NoteFault>
         ensures { Read family_reads r.old result r.new }
     {
@@ -40,6 +32,18 @@ impl Family {
             Ok(Family::Four)
         } else {
             Ok(Family::Six)
+        }
+    }
+}
+
+// The number of a family in its field.
+impl From<Family> for u128 {
+    ghost from_gives = { λ family n. n ≡ code_of family };
+
+    fn from(family: Family) -> u128 {
+        match family {
+            Family::Four => 0,
+            Family::Six => 1,
         }
     }
 }

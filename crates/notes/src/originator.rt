@@ -30,6 +30,20 @@ pub struct Originator {
     len: usize,
 }
 
+// The number of a kind in its field.
+impl From<EntryKind> for u128 {
+    ghost from_gives = { λ kind n. n ≡ code_of kind };
+
+    fn from(kind: EntryKind) -> u128 {
+        match kind {
+            EntryKind::All => 0,
+            EntryKind::Pattern => 1,
+            EntryKind::Domain => 2,
+            EntryKind::Standing => 3,
+        }
+    }
+}
+
 impl EntryKind {
     fn read(r: &mut BitReader) -> Result<EntryKind, NoteFault>
         ensures { Read kind_reads r.old result r.new }
@@ -39,17 +53,6 @@ impl EntryKind {
             1 => Ok(EntryKind::Pattern),
             2 => Ok(EntryKind::Domain),
             _ => Ok(EntryKind::Standing),
-        }
-    }
-
-    fn code(self) -> u128
-        ensures { result ≡ code_of self }
-    {
-        match self {
-            EntryKind::All => 0,
-            EntryKind::Pattern => 1,
-            EntryKind::Domain => 2,
-            EntryKind::Standing => 3,
         }
     }
 
@@ -141,7 +144,7 @@ impl Item for Originator {
 
     fn write_item(&self, note: &[u8], w: &mut BitWriter) {
         let text = self.text(note);
-        put(w, 2, self.kind.code());
+        put(w, 2, u128::from(self.kind));
         put(w, 6, text.len() as u128);
         put_bytes(w, text);
     }

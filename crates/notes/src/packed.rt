@@ -13,7 +13,7 @@ pub trait Packed: Copy + Default {
     // The fewest bits of a form.
     const LEAST_WIDTH: usize;
 
-    ghost least: { ℕ };
+    ghost LEAST_WIDTH: { ℕ };
 
     // What an item stands for.
     ghost value: { Type 0 };
@@ -29,17 +29,13 @@ pub trait Packed: Copy + Default {
     // The value that stands at a place of a row of bits, and the place behind it, or a fault.
     ghost reads: { List ℕ → ℕ → Result (value × ℕ) Report };
 
-    // The constant, which clauses cannot cite.
-    fn min_width() -> usize
-        ensures { result ≡ least };
-
     fn read(r: &mut BitReader) -> Result<Self, NoteFault>
         ensures { ReadAs meant reads r.old result r.new };
 
     // The form of a lawful value reads back as that value, and what is read has that form.
     ghost round: { Lawful (λ x. lawful x ≡ true) form reads };
 
-    ghost shortest: { (x : value) → lawful x ≡ true → least ≤ length (form x) };
+    ghost shortest: { (x : value) → lawful x ≡ true → LEAST_WIDTH ≤ length (form x) };
 }
 
 // A packed item that can be written where there is room. Writing asks for room, so this stays inside the crate.

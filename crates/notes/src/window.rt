@@ -68,8 +68,7 @@ impl ClockSets {
         requires { Valid time }
         ensures { result ≡ clock_admits self.now time }
     {
-        self.seconds.has(time.second)
-            & (self.minutes.has(time.minute) & self.hours.has(time.hour))
+        self.seconds.has(time.second) & (self.minutes.has(time.minute) & self.hours.has(time.hour))
     }
 
     fn contains(&self, other: &ClockSets) -> bool
@@ -127,7 +126,7 @@ impl DateSets {
 impl Packed for Window {
     const LEAST_WIDTH: usize = 294;
 
-    ghost least = { 294 };
+    ghost LEAST_WIDTH = { 294 };
 
     ghost value = { WindowValue };
 
@@ -142,10 +141,6 @@ impl Packed for Window {
     ghost round = { lawful_window };
 
     ghost shortest = { λ x h. omega (arith, window_long x) };
-
-    fn min_width() -> usize {
-        Self::LEAST_WIDTH
-    }
 
     fn read(r: &mut BitReader) -> Result<Window, NoteFault> {
         let clock = ClockSets::read(r)?;

@@ -33,6 +33,12 @@ impl<T: Copy + Default, const N: usize> Few<T, N> {
     }
 }
 
+impl<T: Copy + Default, const N: usize> Default for Few<T, N> {
+    fn default() -> Few<T, N> {
+        Few::new()
+    }
+}
+
 impl<T: Copy, const N: usize> Few<T, N> {
     fn len(&self) -> usize
         ensures { result ≡ length (listed self.now) }

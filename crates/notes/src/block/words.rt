@@ -1,44 +1,32 @@
 // A block in words: the groups of its address, and its prefix length.
-ghost use Rattle.std.specs.Prelude.{◌≡◌, ◌-◌, ◌*◌, ◌/◌, ◌%◌, ◌^◌, ◌<◌};
+ghost use Rattle.std.specs.Prelude.{◌≡◌, ◌/◌, ◌%◌, ◌^◌};
 
 use super::super::family::Family;
 use super::{Block, above, below};
 use std::fmt;
 
-// The i-th number of a dotted address.
-fn octet(address: u128, i: u8) -> u128
-    requires { i < 4 }
-    ensures { result ≡ address / 2 ^ (24 - 8 * i) % 2 ^ 8 }
+// The `n` bits of an address in front of its last `behind`.
+fn group(address: u128, behind: u8, n: u8) -> u128
+    ensures { result ≡ address / 2 ^ behind % 2 ^ n }
 {
-    below(above(address, 24 - 8 * i), 8)
-}
-
-// The i-th group of four hexadecimal digits.
-fn group(address: u128, i: u8) -> u128
-    requires { i < 8 }
-    ensures { result ≡ address / 2 ^ (112 - 16 * i) % 2 ^ 16 }
-{
-    below(above(address, 112 - 16 * i), 16)
+    below(above(address, behind), n)
 }
 
 fn write_dotted<W: fmt::Write>(address: u128, f: &mut fmt::Formatter<W>) -> fmt::Result {
-    for i in 0..4 {
-        if i > 0 {
-            f.write_char('.')?;
-        }
-        let octet = octet(address, i);
-        write!(f, "{octet}")?;
-    }
-    Ok(())
+    f.write_joined(
+        [24, 16, 8, 0]
+            .iter()
+            .map(|behind| group(address, *behind, 8)),
+        ".",
+    )
 }
 
 fn write_grouped<W: fmt::Write>(address: u128, f: &mut fmt::Formatter<W>) -> fmt::Result {
-    for i in 0..8 {
-        if i > 0 {
-            f.write_char(':')?;
-        }
-        let group = group(address, i);
-        write!(f, "{group:x}")?;
+    let mut separator = "";
+    for behind in [112, 96, 80, 64, 48, 32, 16, 0] {
+        let group = group(address, behind, 16);
+        write!(f, "{separator}{group:x}")?;
+        separator = ":";
     }
     Ok(())
 }

@@ -12,11 +12,12 @@ use super::super::writing::put;
 use super::{Head, Rule, RuleParts, Side};
 use bits::BitWriter;
 
-impl Side {
-    fn code(self) -> u128
-        ensures { result ≡ side_code self }
-    {
-        match self {
+// The number of a side in its field.
+impl From<Side> for u128 {
+    ghost from_gives = { λ side n. n ≡ side_code side };
+
+    fn from(side: Side) -> u128 {
+        match side {
             Side::Privileges => 0,
             Side::SelfPrivileges => 1,
         }
@@ -28,7 +29,7 @@ impl Head {
         requires { Fits w.old 16 }
         ensures { Wrote w.old w.new (head_form self.now) }
     {
-        put(w, 1, self.side.code());
+        put(w, 1, u128::from(self.side));
         put(w, 1, u8::from(self.authenticated) as u128);
         self.operations.write(w);
         put(w, 3, self.originators as u128);

@@ -11,7 +11,7 @@ pub put-requires : goal.put-requires
 put-requires c = omega (arith, originator_long (originator_of c.args.note.now c.args.self.now))
 
 pub put-requires-2 : goal.put-requires-2
-put-requires-2 c = omega (arith, originator_long (originator_of c.args.note.now c.args.self.now), c.put.ensures.moved, c.put.ensures.size, length_digits 2 c.code.result)
+put-requires-2 c = omega (arith, originator_long (originator_of c.args.note.now c.args.self.now), c.put.ensures.moved, c.put.ensures.size, length_digits 2 c.from.result)
 
 pub put_bytes-requires : goal.put_bytes-requires
 put_bytes-requires c =
@@ -20,7 +20,7 @@ put_bytes-requires c =
       originator_long (originator_of c.args.note.now c.args.self.now),
       c.put.ensures.moved,
       c.put.ensures.size,
-      length_digits 2 c.code.result,
+      length_digits 2 c.from.result,
       c.put-2.ensures.moved,
       c.put-2.ensures.size,
       length_digits 6 (length c.text-text.result.now),
@@ -30,5 +30,5 @@ put_bytes-requires c =
 pub returns : goal.returns
 returns c =
     subst (Wrote c.args.w.now c.put_bytes.new.w)
-    (λ i. digits 2 (c.code.ensures i) ++ (digits 6 (length (c.text-text.ensures i)) ++ bits (c.text-text.ensures i)))
+    (λ i. digits 2 (c.from.ensures i) ++ (digits 6 (length (c.text-text.ensures i)) ++ bits (c.text-text.ensures i)))
     (wrote_then (omega (arith, originator_long (originator_of c.args.note.now c.args.self.now))) c.put.ensures (wrote_then c.put.ensures.room c.put-2.ensures c.put_bytes.ensures))
