@@ -32,6 +32,7 @@ no_place p xs e = list_any_none p xs (λ k d h. fails_before_first p xs k d (at 
   where
     n : ℕ
     n = position_or_len p xs
+
     at : (b : Bool) → ltb n (length xs) ≡ b → cond b (Some n) None ≡ None → {k : ℕ} → k < length xs → k < n
     at true t e h = let z : ⊥ = cc in absurd z
     at false t e h = omega (arith, ltb-false n (length xs) t)

@@ -1,10 +1,9 @@
 -- Noted identities. Assumes nothing.
-use Rattle.std.proofs.Common.{◌≡◌, ℕ, ◌+◌, ◌<◌, ◌≤◌, Bool, true, false, cond, not, ◌&&◌, ◌||◌, eqb, List, length, get_or, set, replicate, is_some, Some, None, Err, count_by, Option, sym, refl, ap, ◌∙◌, arith, lit≤}
+use Rattle.std.proofs.Common.{◌≡◌, ℕ, ◌+◌, ◌<◌, ◌≤◌, Bool, true, false, cond, not, ◌&&◌, ◌||◌, List, length, get_or, set, is_some, Some, None, count_by, Option, sym, refl, ap, ◌∙◌, arith}
 use Rattle.std.proofs.lemmas.Bool.{ltb-false, false≢true}
-use Rattle.members.specs.Leavers.{no_leaver, leaver_of, taken, there_is, is_leaver, noted, OnceEach, without_noted, Noted}
+use Rattle.members.specs.Leavers.{no_leaver, leaver_of, taken, there_is, is_leaver, noted, OnceEach, without_noted}
 use Rattle.members.specs.Pairs.{Pairs}
 use Rattle.texts.specs.Same.{same}
-use Rattle.members.specs.declared.full.LayerFull.{LayerFull}
 use Rattle.members.specs.declared.leaver_table.Leaver.{Leaver}
 use Rattle.members.specs.declared.row_text.RowText.{RowText}
 use Rattle.members.proofs.Counts.{ltb_rises, ltb_falls, any_counted, count_set}
@@ -97,16 +96,3 @@ module _ (xs : List Leaver) (below : Pairs) (i : List ℕ) where
       law true n true h = ap not (h refl)
       law false n true h = refl
       law a n false h = refl
-
-pub none_noted : (j : List ℕ) → noted (replicate 16 no_leaver) j ≡ false
-none_noted j = refl
-
-pub once_none : OnceEach (replicate 16 no_leaver)
-once_none j = lit≤ tt
-
--- a new layer refuses no identity
-pub new_not_full : (i : List ℕ) (xs ys : List Leaver) (e : LayerFull) → xs ≡ replicate 16 no_leaver → Noted i xs (Err e) ys → ⊥
-new_not_full i xs ys e new h =
-    let away : noted xs i ≡ false = ap (λ l. noted l i) new in
-    let room : eqb (count_by taken xs) 16 ≡ false = ap (λ l. eqb (count_by taken l) 16) new in
-    false≢true (rw (away, room) at h).0

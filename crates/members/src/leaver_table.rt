@@ -25,7 +25,7 @@ impl Leaver {
     fn is(&self, identity: &[u8]) -> bool
         ensures { result ≡ is_leaver identity.now self.now }
     {
-        self.identity.is_some_and(|text| text.is(identity))
+        self.identity.as_ref().is_some_and(|text| text.is(identity))
     }
 
     fn enter(&mut self, identity: &Identity)
