@@ -1,40 +1,44 @@
 -- Noted identities. Assumes nothing.
-use Rattle.std.proofs.Common.{◌≡◌, ℕ, ◌+◌, ◌<◌, ◌≤◌, Bool, true, false, cond, not, ◌&&◌, ◌||◌, eqb, List, length, get_or, set, replicate, Err, count_by, sym, refl, ap, ◌∙◌, arith, lit≤}
-use Rattle.std.proofs.lemmas.Bool.{and_parts, and_left, ltb-false, false≢true}
-use Rattle.members.specs.Leavers.{no_leaver, leaver_of, taken, is_leaver, noted, OnceEach, without_noted, Noted}
+use Rattle.std.proofs.Common.{◌≡◌, ℕ, ◌+◌, ◌<◌, ◌≤◌, Bool, true, false, cond, not, ◌&&◌, ◌||◌, List, length, get_or, set, is_some, Some, None, count_by, Option, sym, refl, ap, ◌∙◌, arith}
+use Rattle.std.proofs.lemmas.Bool.{ltb-false, false≢true}
+use Rattle.members.specs.Leavers.{no_leaver, leaver_of, taken, there_is, is_leaver, noted, OnceEach, without_noted}
 use Rattle.members.specs.Pairs.{Pairs}
 use Rattle.texts.specs.Same.{same}
-use Rattle.members.specs.declared.full.LayerFull.{LayerFull}
 use Rattle.members.specs.declared.leaver_table.Leaver.{Leaver}
-use Rattle.members.proofs.Counts.{ltb_rises, ltb_falls, some_counted, count_set}
+use Rattle.members.specs.declared.row_text.RowText.{RowText}
+use Rattle.members.proofs.Counts.{ltb_rises, ltb_falls, any_counted, count_set}
 use Rattle.members.proofs.RowLaws.{row_text_holds, row_text_only}
 use Rattle.texts.proofs.Sames.{same_is}
 
 -- an entry holds one identity
-leaver_only : (i j : List ℕ) (x : Leaver) → is_leaver i x ≡ true → is_leaver j x ≡ same j i
-leaver_only i j x e =
-    let parts = and_parts x.used _ e in
-    λ k. parts.0 k && row_text_only i j x.identity parts.1 k
+leaver_only : (i j : List ℕ) (x : Option RowText) → there_is i x ≡ true → there_is j x ≡ same j i
+leaver_only i j None e = absurd (false≢true e)
+leaver_only i j (Some x) e = row_text_only i j x e
+
+-- an entry that is free notes no identity
+free_has_none : (j : List ℕ) (x : Option RowText) → not (is_some x) ≡ true → there_is j x ≡ false
+free_has_none j None e = refl
+free_has_none j (Some x) e = absurd (false≢true e)
 
 module _ (xs : List Leaver) (k : ℕ) (inside : k < length xs) (i : List ℕ) where
-  module _ (short : length i ≤ 40) (free : taken (get_or xs k no_leaver) ≡ false) where
+  module _ (short : length i ≤ 40) (free : not (taken (get_or xs k no_leaver)) ≡ true) where
     count_entered : (j : List ℕ) → count_by (is_leaver j) (set xs k (leaver_of i)) ≡ count_by (is_leaver j) xs + cond (same j i) 1 0
     count_entered j =
-        let zero : ◌≡◌ {A = ℕ} (cond (is_leaver j (get_or xs k no_leaver)) 1 0) 0 = rw (and_left (taken (get_or xs k no_leaver)) _ free) in
+        let zero : ◌≡◌ {A = ℕ} (cond (is_leaver j (get_or xs k no_leaver)) 1 0) 0 = rw (free_has_none j (get_or xs k no_leaver).identity free) in
         let one : ◌≡◌ {A = ℕ} (cond (is_leaver j (leaver_of i)) 1 0) (cond (same j i) 1 0) = ap (λ b. cond b 1 0) (row_text_holds j i short) in
         omega (arith, zero, one, count_set (is_leaver j) xs k (leaver_of i) no_leaver inside)
 
     noted_entered : (j : List ℕ) → noted (set xs k (leaver_of i)) j ≡ (same j i || noted xs j)
     noted_entered j =
-        some_counted (is_leaver j) (set xs k (leaver_of i)) ∙ ltb_rises _ _ (same j i) (count_entered j)
-        ∙ ap (λ b. same j i || b) (sym (some_counted (is_leaver j) xs))
+        any_counted (is_leaver j) (set xs k (leaver_of i)) ∙ ltb_rises _ _ (same j i) (count_entered j)
+        ∙ ap (λ b. same j i || b) (sym (any_counted (is_leaver j) xs))
 
     pub once_entered : noted xs i ≡ false → OnceEach xs → OnceEach (set xs k (leaver_of i))
     once_entered new once j = at (same j i) refl
       where
         at : (b : Bool) → same j i ≡ b → count_by (is_leaver j) (set xs k (leaver_of i)) ≤ 1
         at true e =
-            let none = ltb-false 0 (count_by (is_leaver j) xs) (sym (some_counted (is_leaver j) xs) ∙ ap (noted xs) ((same_is j i).0 e) ∙ new) in
+            let none = ltb-false 0 (count_by (is_leaver j) xs) (sym (any_counted (is_leaver j) xs) ∙ ap (noted xs) ((same_is j i).0 e) ∙ new) in
             let one : ◌≡◌ {A = ℕ} (cond (same j i) 1 0) 1 = rw e in
             omega (arith, none, one, count_entered j)
         at false e =
@@ -53,15 +57,14 @@ module _ (xs : List Leaver) (k : ℕ) (inside : k < length xs) (i : List ℕ) wh
 
   module _ (there : is_leaver i (get_or xs k no_leaver) ≡ true) (once : OnceEach xs) where
     count_cleared : (j : List ℕ) → count_by (is_leaver j) (set xs k no_leaver) + cond (same j i) 1 0 ≡ count_by (is_leaver j) xs
-    unfolding no_leaver
     count_cleared j =
-        let one : ◌≡◌ {A = ℕ} (cond (is_leaver j (get_or xs k no_leaver)) 1 0) (cond (same j i) 1 0) = ap (λ b. cond b 1 0) (leaver_only i j (get_or xs k no_leaver) there) in
+        let one : ◌≡◌ {A = ℕ} (cond (is_leaver j (get_or xs k no_leaver)) 1 0) (cond (same j i) 1 0) = ap (λ b. cond b 1 0) (leaver_only i j (get_or xs k no_leaver).identity there) in
         omega (arith, one, count_set (is_leaver j) xs k no_leaver no_leaver inside)
 
     noted_cleared : (j : List ℕ) → noted (set xs k no_leaver) j ≡ (not (same j i) && noted xs j)
     noted_cleared j =
-        some_counted (is_leaver j) (set xs k no_leaver) ∙ ltb_falls _ _ (same j i) (count_cleared j) (once j)
-        ∙ ap (λ b. not (same j i) && b) (sym (some_counted (is_leaver j) xs))
+        any_counted (is_leaver j) (set xs k no_leaver) ∙ ltb_falls _ _ (same j i) (count_cleared j) (once j)
+        ∙ ap (λ b. not (same j i) && b) (sym (any_counted (is_leaver j) xs))
 
     pub once_cleared : OnceEach (set xs k no_leaver)
     once_cleared j = omega (arith, once j, count_cleared j)
@@ -93,19 +96,3 @@ module _ (xs : List Leaver) (below : Pairs) (i : List ℕ) where
       law true n true h = ap not (h refl)
       law false n true h = refl
       law a n false h = refl
-
-pub none_noted : (j : List ℕ) → noted (replicate 16 no_leaver) j ≡ false
-unfolding no_leaver
-none_noted j = refl
-
-pub once_none : OnceEach (replicate 16 no_leaver)
-unfolding no_leaver
-once_none j = lit≤ tt
-
--- a new layer refuses no identity
-pub new_not_full : (i : List ℕ) (xs ys : List Leaver) (e : LayerFull) → xs ≡ replicate 16 no_leaver → Noted i xs (Err e) ys → ⊥
-unfolding no_leaver
-new_not_full i xs ys e new h =
-    let away : noted xs i ≡ false = ap (λ l. noted l i) new in
-    let room : eqb (count_by taken xs) 16 ≡ false = ap (λ l. eqb (count_by taken l) 16) new in
-    false≢true (rw (away, room) at h).0

@@ -1,7 +1,7 @@
 -- Presented pairs. Assumes nothing.
 use Rattle.std.proofs.Common.{◌≡◌, ℕ, ◌≤◌, Bool, true, false, ◌&&◌, ◌||◌, List, [], ◌∷◌, ◌++◌, length, refl, ap, ◌∙◌}
 use Rattle.std.proofs.lemmas.Bool.{and_parts}
-use Rattle.texts.specs.Lists.{some}
+use Rattle.std.proofs.lemmas.List.Folds.{list_any-append}
 use Rattle.members.specs.Pairs.{Pairs}
 use Rattle.members.specs.Rows.{row_of, row_is, listed}
 use Rattle.texts.specs.Same.{same}
@@ -10,19 +10,7 @@ use Rattle.members.specs.declared.flat_roll.MemberRow.{MemberRow}
 use Rattle.members.proofs.RowLaws.{row_holds}
 use Rattle.texts.proofs.Sames.{same_is}
 
-some_push : {X : Type 0} (p : X → Bool) (xs : List X) (x : X) → some p (xs ++ (x ∷ [])) ≡ (some p xs || p x)
-some_push p [] x = or_false (p x)
-  where
-    or_false : (b : Bool) → (b || false) ≡ b
-    or_false true = refl
-    or_false false = refl
-some_push p (y ∷ xs) x = ap (λ b. p y || b) (some_push p xs x) ∙ or_assoc (p y) (some p xs) (p x)
-  where
-    or_assoc : (a b d : Bool) → (a || (b || d)) ≡ ((a || b) || d)
-    or_assoc true b d = refl
-    or_assoc false b d = refl
-
-or_swap : (a b d : Bool) → ((a || b) || d) ≡ ((a || d) || b)
+or_swap : (a b d : Bool) → ((a || (b || false)) || d) ≡ ((a || d) || b)
 or_swap true b d = refl
 or_swap false true true = refl
 or_swap false true false = refl
@@ -46,5 +34,5 @@ module _ (held : List MemberRow) (below : Pairs) (identity standing : List ℕ) 
       length identity ≤ 40 → length standing ≤ 40 → (i s : List ℕ)
       → with_presented (held ++ (row_of identity standing ∷ [])) below i s ≡ (with_presented held below i s || (same i identity && same s standing))
   gains_one hi hs i s =
-      ap (λ b. b || below i s) (some_push (row_is i s) held (row_of identity standing) ∙ ap (λ b. listed held i s || b) (row_holds i s identity standing hi hs))
+      ap (λ b. b || below i s) (list_any-append (row_is i s) held (row_of identity standing ∷ []) ∙ ap (λ b. listed held i s || (b || false)) (row_holds i s identity standing hi hs))
       ∙ or_swap (listed held i s) (same i identity && same s standing) (below i s)

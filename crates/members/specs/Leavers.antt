@@ -1,31 +1,37 @@
 -- The leavers layer. Assumes nothing.
-use Rattle.std.specs.Prelude.{◌≡◌, ℕ, ◌<◌, ◌≤◌, Bool, true, false, cond, not, ◌&&◌, List, [], length, is_ok, Ok, Err, count_by, Result, ◌==◌, slice_index_or, slice_set}
-use Rattle.texts.specs.Lists.{some}
+use Rattle.std.specs.Prelude.{◌≡◌, ℕ, ◌<◌, ◌≤◌, Bool, true, false, cond, not, ◌&&◌, List, length, is_ok, is_some, Some, None, Ok, Err, count_by, Option, Result, ◌==◌, slice_index_or, slice_set}
+use Rattle.std.specs.List.{list_any}
 use Rattle.members.specs.declared.full.LayerFull.{LayerFull}
 use Rattle.members.specs.declared.leaver_table.Leaver.{Leaver}
+use Rattle.members.specs.declared.row_text.RowText.{RowText}
 use Rattle.members.specs.Pairs.{Pairs, Alike, without_identity}
 use Rattle.members.specs.Rows.{row_text_of, row_text_is}
 use Rattle.texts.specs.Same.{same}
 
 -- an entry in which nothing is noted
-unfoldable pub no_leaver : Leaver
-no_leaver = record { used = false; identity = row_text_of [] }
+abbrev pub no_leaver : Leaver
+no_leaver = record { identity = None }
 
 -- the entry of a noted identity
 abbrev pub leaver_of : List ℕ → Leaver
-leaver_of i = record { used = true; identity = row_text_of i }
+leaver_of i = record { identity = Some (row_text_of i) }
 
 -- an identity is noted in the entry
 abbrev pub taken : Leaver → Bool
-taken x = x.used
+taken x = is_some x.identity
+
+-- a row is there, and it has the text
+abbrev pub there_is : List ℕ → Option RowText → Bool
+there_is i None = false
+there_is i (Some x) = row_text_is i x
 
 -- this identity is noted in the entry
 abbrev pub is_leaver : List ℕ → Leaver → Bool
-is_leaver i x = x.used && row_text_is i x.identity
+is_leaver i x = there_is i x.identity
 
 -- this identity is noted in some entry
 abbrev pub noted : List Leaver → List ℕ → Bool
-noted xs i = some (is_leaver i) xs
+noted xs i = list_any (is_leaver i) xs
 
 -- no identity is noted twice
 abbrev pub OnceEach : List Leaver → Type 0

@@ -1,6 +1,6 @@
 -- Rows of member tables. Assumes nothing.
 use Rattle.std.specs.Prelude.{ℕ, ◌-◌, Bool, ◌&&◌, List, ◌++◌, length, take, replicate, nat_le}
-use Rattle.texts.specs.Lists.{some}
+use Rattle.std.specs.List.{list_any}
 use Rattle.members.specs.Pairs.{Pairs}
 use Rattle.texts.specs.Same.{same}
 use Rattle.members.specs.declared.row_text.RowText.{RowText}
@@ -24,4 +24,4 @@ row_is i s x = row_text_is i x.identity && row_text_is s x.standing
 
 -- a table means the pairs that stand in its rows
 abbrev pub listed : List MemberRow → Pairs
-listed xs i s = some (row_is i s) xs
+listed xs i s = list_any (row_is i s) xs

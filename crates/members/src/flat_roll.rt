@@ -40,12 +40,7 @@ impl MemberRow {
 pub(super) fn has_row(rows: &[MemberRow], identity: &[u8], standing: &[u8]) -> bool
     ensures { result ≡ listed rows.now identity.now standing.now }
 {
-    for row in rows {
-        if row.is(identity, standing) {
-            return true;
-        }
-    }
-    false
+    rows.iter().any(|row| row.is(identity, standing))
 }
 
 #[derive(Drop)]

@@ -21,10 +21,7 @@ impl<L: MemberList> MemberList for LeaversLayer<L> {
     ghost pairs = { λ m. without_noted m.table.entries (L.MemberList.pairs m.below) };
 
     fn has(&self, identity: &Identity, standing: &[u8]) -> bool {
-        match self.table.find(identity) {
-            Some(_) => false,
-            None => self.below.has(identity, standing),
-        }
+        !self.table.has(identity) && self.below.has(identity, standing)
     }
 }
 
@@ -52,16 +49,12 @@ impl<L: MemberList> LeaversLayer<L> {
         ensures noted { Noted (identity_text identity.now) self.old.table.entries result self.new.table.entries }
         ensures meaning { Lost (identity_text identity.now) (without_noted self.old.table.entries (L.MemberList.pairs self.old.below)) result (without_noted self.new.table.entries (L.MemberList.pairs self.new.below)) }
     {
-        match self.table.find(identity) {
-            Some(_) => Ok(()),
-            None => match self.table.find_free() {
-                Some(k) => {
-                    self.table.enter(k, identity);
-                    Ok(())
-                }
-                None => Err(LayerFull),
-            },
+        if self.table.has(identity) {
+            return Ok(());
         }
+        let k = self.table.find_free().ok_or(LayerFull)?;
+        self.table.enter(k, identity);
+        Ok(())
     }
 
     // An identity that is not noted is accepted without effect.
@@ -70,9 +63,8 @@ impl<L: MemberList> LeaversLayer<L> {
         ensures noted { Readmitted (identity_text identity.now) self.old.table.entries self.new.table.entries }
         ensures meaning { Regained (identity_text identity.now) (L.MemberList.pairs self.old.below) (without_noted self.old.table.entries (L.MemberList.pairs self.old.below)) (without_noted self.new.table.entries (L.MemberList.pairs self.new.below)) }
     {
-        match self.table.find(identity) {
-            Some(k) => self.table.clear(k),
-            None => {}
+        if let Some(k) = self.table.find(identity) {
+            self.table.clear(k);
         }
     }
 }

@@ -21,10 +21,7 @@ impl<L: MemberList> MemberList for TokenLayer<L> {
     ghost pairs = { λ m. with_presented (presented_rows m.held) (L.MemberList.pairs m.below) };
 
     fn has(&self, identity: &Identity, standing: &[u8]) -> bool {
-        if self.held.has(identity.as_bytes(), standing) {
-            return true;
-        }
-        self.below.has(identity, standing)
+        self.held.has(identity.as_bytes(), standing) || self.below.has(identity, standing)
     }
 }
 

@@ -1,15 +1,16 @@
 -- The tables and the book agree after each call. Assumes nothing.
-use Rattle.std.proofs.Common.{◌≡◌, ℕ, zero, suc, ◌+◌, ◌<◌, ◌≤◌, Bool, true, false, cond, not, ◌&&◌, eqb, ltb, List, ◌∷◌, length, get_or, set, replicate, Some, None, Ok, Err, count_by, Option, Result, sym, refl, ap, ◌∙◌, subst, ⊎_elim, arith, length-set, length-take, get_or-set_other, get_or-take, get_or-set_same}
+use Rattle.std.proofs.Common.{◌≡◌, ℕ, zero, suc, ◌+◌, ◌<◌, ◌≤◌, Bool, true, false, cond, not, ◌&&◌, eqb, ltb, List, ◌∷◌, length, get_or, set, replicate, is_some, Some, None, Ok, Err, count_by, Option, Result, sym, refl, ap, ◌∙◌, subst, ⊎_elim, arith, length-set, length-take, get_or-set_other, get_or-take, get_or-set_same}
 use mathlib.Core.Bool.{false≢true}
 use lib.Seq.{take-set-lt}
 use Rattle.std.proofs.lemmas.Bool.{and_parts, cases_Bool, cases_eq, eqb-true, eq-eqb, ne_eqb, ltb-true, ltb-false, lt-ltb}
 use Rattle.bits.specs.declared.fault.Report.{Report}
 use Rattle.notes.specs.Rules.{RuleValue, note_reads}
+use Rattle.register.specs.declared.row.HeldRule.{HeldRule}
 use Rattle.register.specs.declared.row.RuleRow.{RuleRow}
 use Rattle.register.specs.declared.target_row.TargetRow.{TargetRow}
 use Rattle.register.specs.Answers.{Opening, Call, add, withdraw, link, unlink, judge, Answer, accepted, refused, permitted, denied, stands, too_high, note_refusal, add_refusal, withdraw_refusal, link_refusal, unless_refused, Answers}
 use Rattle.register.specs.Book.{Book, empty, in_book, unless, entered, struck, marked, noted}
-use Rattle.register.specs.Entries.{Entry, entry_of, is_named, hits, freed}
+use Rattle.register.specs.Entries.{Entry, entry_of, is_named, is_used, held_passes, hits, freed}
 use Rattle.register.specs.Faults.{Refusal, plainly}
 use Rattle.register.specs.Requests.{targets_used}
 use Rattle.register.specs.Tables.{Tables, used_rows, opening, is_linked, holdings, Opened, At, with_row, with_link, After, Served}
@@ -59,15 +60,20 @@ and_comm true false = refl
 and_comm false true = refl
 and_comm false false = refl
 
-of_one : (u x y : Bool) → (u && y) ≡ true → (◌≡◌ {A = ℕ} (cond (u && (x && y)) 1 0) (cond (u && x) 1 0)) × (◌≡◌ {A = ℕ} (cond (u && (y && not x)) 1 0 + cond (u && x) 1 0) 1)
-of_one true true true h = (refl, refl)
-of_one true false true h = (refl, refl)
-of_one true x false h = absurd (false≢true h)
-of_one false x y h = absurd (false≢true h)
+of_one : (x y : Bool) → y ≡ true → (◌≡◌ {A = ℕ} (cond (x && y) 1 0) (cond x 1 0)) × (◌≡◌ {A = ℕ} (cond (y && not x) 1 0 + cond x 1 0) 1)
+of_one true true h = (refl, refl)
+of_one false true h = (refl, refl)
+of_one x false h = absurd (false≢true h)
 
 -- a row that holds the rule of a name: whether f picks it
-of_named : (f k : Entry → Bool) (r : RuleRow) → hits k r ≡ true → (◌≡◌ {A = ℕ} (cond (hits (λ e. f e && k e) r) 1 0) (cond (hits f r) 1 0)) × (◌≡◌ {A = ℕ} (cond (hits (λ e. k e && not (f e)) r) 1 0 + cond (hits f r) 1 0) 1)
-of_named f k r h = of_one r.used (f (entry_of r)) (k (entry_of r)) h
+of_named : (f k : Entry → Bool) (o : Option HeldRule) → held_passes k o ≡ true → (◌≡◌ {A = ℕ} (cond (held_passes (λ e. f e && k e) o) 1 0) (cond (held_passes f o) 1 0)) × (◌≡◌ {A = ℕ} (cond (held_passes (λ e. k e && not (f e)) o) 1 0 + cond (held_passes f o) 1 0) 1)
+of_named f k None h = absurd (false≢true h)
+of_named f k (Some r) h = of_one (f (entry_of r)) (k (entry_of r)) h
+
+-- a free row holds no rule that passes a test
+free_fails : (f : Entry → Bool) (o : Option HeldRule) → is_some o ≡ false → held_passes f o ≡ false
+free_fails f None h = refl
+free_fails f (Some r) h = absurd (false≢true (sym h))
 
 single_more : (b : Book) (e : Entry) (p n : ℕ) → stands (in_book b) e.policy e.number ≡ false → count_by (is_named p n) b.rules ≤ 1 → count_by (is_named p n) (e ∷ b.rules) ≤ 1
 single_more b e p n fresh one =
@@ -124,14 +130,14 @@ module _ {o : Opening} {t : Tables} {b : Book} (a : Agrees o t b) where
     long y = (λ j. record { home = t.home; rows = length-set t.rows i y j; targets = length t.targets }) ∙ a.alike
 
     pub add_agrees :
-        (y : RuleRow) (e : Entry) → stands (in_book b) e.policy e.number ≡ false → x.used ≡ false → y.used ≡ true → entry_of y ≡ e
-        → Agrees o (with_row t i y) (record { rules = e ∷ b.rules; links = b.links })
-    add_agrees y e fresh free used is = record {
-      alike = long y;
+        (h : HeldRule) (e : Entry) → stands (in_book b) e.policy e.number ≡ false → is_used x ≡ false → entry_of h ≡ e
+        → Agrees o (with_row t i (record { held = Some h })) (record { rules = e ∷ b.rules; links = b.links })
+    add_agrees h e fresh free is = record {
+      alike = long (record { held = Some h });
       rules = λ f.
-          let z : ◌≡◌ {A = ℕ} (cond (hits f x) 1 0) 0 = rw free in
-          let w : ◌≡◌ {A = ℕ} (cond (hits f y) 1 0) (cond (f e) 1 0) = (λ j. cond (used j && f (is j)) 1 0) in
-          omega (arith, row_set f y, count_cons f e b.rules, z, w);
+          let z : ◌≡◌ {A = ℕ} (cond (hits f x) 1 0) 0 = rw (free_fails f x.held free) in
+          let w : ◌≡◌ {A = ℕ} (cond (f (entry_of h)) 1 0) (cond (f e) 1 0) = ap (λ e. cond (f e) 1 0) is in
+          omega (arith, row_set f (record { held = Some h }), count_cons f e b.rules, z, w);
       links = a.links;
       wide = a.wide;
       single = λ p n. single_more b e p n fresh (a.single p n);
@@ -145,7 +151,7 @@ module _ {o : Opening} {t : Tables} {b : Book} (a : Agrees o t b) where
         row_set f (freed x),
         row_set (λ e. f e && is_named p n e) (freed x),
         row_set (λ e. is_named p n e && not (f e)) (freed x),
-        of_named f (is_named p n) x found,
+        of_named f (is_named p n) x.held found,
         count_split f (is_named p n) b.rules,
         count_split (is_named p n) f b.rules,
         count_same (λ e. f e && is_named p n e) (λ e. is_named p n e && f e) b.rules (λ e. and_comm (f e) (is_named p n e)),
@@ -208,8 +214,8 @@ step_agrees o (add p n note) t b x t' a s =
     let fresh = not_taken a t' x p n (too_high p n) (stands (in_book b) p n) _ (note_reads note) none in
     let e : Entry = record { policy = p; number = n; rule = (entry_of z).rule } in
     subst (λ u. Agrees o u (entered p n (note_reads note) b)) (sym is)
-    (subst (λ r. Agrees o (with_row t i z) (entered p n r b)) (sym holds.rule_is)
-    (add_agrees a i y at z e fresh free holds.used (λ j. record { policy = holds.policy j; number = holds.number j; rule = (entry_of z).rule }))))
+    (subst (λ r. Agrees o (with_row t i (record { held = Some z })) (entered p n r b)) (sym holds.rule_is)
+    (add_agrees a i y at z e fresh free (λ j. record { policy = holds.policy j; number = holds.number j; rule = (entry_of z).rule }))))
 step_agrees o (withdraw p n) t b x t' a s =
     settled a t' x (withdraw_refusal (in_book b) p n) _ (struck p n b) (answer_by_book a (withdraw p n) x s.answer) s.later
     (λ none (i, y, at, found, is). subst (λ u. Agrees o u (struck p n b)) (sym is) (withdraw_agrees a i y at p n found))

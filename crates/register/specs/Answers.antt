@@ -3,13 +3,12 @@ use Rattle.std.specs.Prelude.{◌≡◌, ℕ, ◌<◌, min, Bool, cond, ◌&&◌
 use Rattle.bits.specs.declared.fault.Report.{Report}
 use Rattle.members.specs.Pairs.{Pairs}
 use Rattle.notes.specs.Rules.{RuleValue, note_reads}
-use Rattle.register.specs.declared.fault.Cause.{Cause}
 use Rattle.register.specs.declared.fault.RegisterFault.{RegisterFault}
 use Rattle.register.specs.declared.request.Request.{Request}
 use Rattle.register.specs.declared.verdict.Verdict.{Verdict}
 use Rattle.register.specs.declared.verdict.Verdict.TheVariants.{Permit, Deny}
 use Rattle.register.specs.Entries.{Entry, is_named, is_lower, every}
-use Rattle.register.specs.Faults.{Refusal, refusal_of, plainly, in_note, cause_refusal, addition_refusal}
+use Rattle.register.specs.Faults.{Refusal, refusal_of, plainly, in_note}
 use Rattle.register.specs.Requests.{targets_used, request_refusal, counts}
 
 -- the home domain, and how many rows and targets the tables have
@@ -93,21 +92,9 @@ abbrev pub done : Result (Unit {0}) RegisterFault → Answer
 done (Ok x) = accepted
 done (Err x) = refused (refusal_of x)
 
-abbrev pub added : ℕ → ℕ → Result (Unit {0}) Cause → Answer
-added p n (Ok x) = accepted
-added p n (Err c) = refused (addition_refusal p n c)
-
-abbrev pub completed : Result (Unit {0}) Cause → Answer
-completed (Ok x) = accepted
-completed (Err c) = refused (cause_refusal c)
-
 abbrev pub verdict_given : Verdict → Answer
 verdict_given (Permit p n c) = permitted p n c
 verdict_given Deny = denied
-
-abbrev pub judged_so : Result Verdict Cause → Answer
-judged_so (Ok v) = verdict_given v
-judged_so (Err c) = refused (cause_refusal c)
 
 abbrev pub decided : Result Verdict RegisterFault → Answer
 decided (Ok v) = verdict_given v

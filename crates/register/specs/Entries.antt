@@ -1,7 +1,8 @@
 -- Rules that stand under a policy and a rule number. Assumes nothing.
-use Rattle.std.specs.Prelude.{ℕ, Bool, true, false, ◌&&◌, ◌||◌, ◌==◌, nat_lt}
+use Rattle.std.specs.Prelude.{ℕ, Bool, true, false, ◌&&◌, ◌||◌, is_some, Some, None, Option, ◌==◌, nat_lt}
 use Rattle.notes.specs.Notes.{plain_value}
 use Rattle.notes.specs.Rules.{RuleValue}
+use Rattle.register.specs.declared.row.HeldRule.{HeldRule}
 use Rattle.register.specs.declared.row.RuleRow.{RuleRow}
 
 pub record Entry : Type 0 where
@@ -20,14 +21,23 @@ is_lower p n e = nat_lt e.policy p || (e.policy == p && nat_lt e.number n)
 abbrev pub every : Entry → Bool
 every e = true
 
--- the rule that a row holds, where it is used
-abbrev pub entry_of : RuleRow → Entry
-entry_of r = record { policy = r.policy; number = r.number; rule = plain_value r.rule }
+-- the rule that a row holds
+abbrev pub entry_of : HeldRule → Entry
+entry_of h = record { policy = h.name.policy; number = h.name.number; rule = plain_value h.rule }
+
+-- the row holds a rule
+abbrev pub is_used : RuleRow → Bool
+is_used r = is_some r.held
+
+-- a rule is there, and it passes the test
+abbrev pub held_passes : (Entry → Bool) → Option HeldRule → Bool
+held_passes f None = false
+held_passes f (Some h) = f (entry_of h)
 
 -- the row is used, and its rule passes the test
 abbrev pub hits : (Entry → Bool) → RuleRow → Bool
-hits f r = r.used && f (entry_of r)
+hits f r = held_passes f r.held
 
 -- the row, marked free
 abbrev pub freed : RuleRow → RuleRow
-freed r = record { used = false; policy = r.policy; number = r.number; rule = r.rule }
+freed r = record { held = None }

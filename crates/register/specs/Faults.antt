@@ -6,7 +6,7 @@ use Rattle.notes.specs.Faults.{report as note_report}
 use Rattle.register.specs.declared.fault.Cause.{Cause}
 use Rattle.register.specs.declared.fault.Cause.TheVariants.{Note, TooHigh, UnknownTarget, Taken, Missing, Full, Instant, Country}
 use Rattle.register.specs.declared.fault.RegisterFault.{RegisterFault}
-use Rattle.register.specs.declared.fault.RuleName.{RuleName}
+use Rattle.register.specs.declared.rule_name.RuleName.{RuleName}
 
 -- number, place and layer, and the rule that a fault in a note was to become
 pub record Refusal : Type 0 where
@@ -45,14 +45,3 @@ in_note p n e = record { report = e; rule = Some (named p n) }
 -- the refusal of a call that brings no note
 abbrev pub cause_refusal : Cause → Refusal
 cause_refusal c = record { report = cause_report c; rule = None }
-
--- an addition's refusal by its cause: only a fault in the note names the rule
-abbrev pub addition_refusal : ℕ → ℕ → Cause → Refusal
-addition_refusal p n (Note e) = in_note p n (note_report e)
-addition_refusal p n TooHigh = plainly 8
-addition_refusal p n UnknownTarget = plainly 9
-addition_refusal p n Taken = plainly 10
-addition_refusal p n Missing = plainly 11
-addition_refusal p n Full = plainly 12
-addition_refusal p n Instant = plainly 14
-addition_refusal p n Country = plainly 15

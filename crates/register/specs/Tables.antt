@@ -1,13 +1,14 @@
 -- A register by its tables, and what each call does to them. Assumes nothing.
-use Rattle.std.specs.Prelude.{◌≡◌, ℕ, ◌<◌, Bool, true, false, ◌&&◌, List, ◌++◌, map, length, get_or, take, drop, Ok, vec_items, count_by, nat_lt, slice_index_or, slice_set}
+use Rattle.std.specs.Prelude.{◌≡◌, ℕ, ◌<◌, Bool, true, false, ◌&&◌, List, ◌++◌, map, length, get_or, take, drop, Some, Ok, vec_items, count_by, nat_lt, slice_index_or, slice_set}
 use Rattle.texts.specs.TextValues.{domain_text}
 use Rattle.notes.specs.Notes.{plain_note}
 use Rattle.notes.specs.Rules.{note_reads, rule_lawful}
 use Rattle.register.specs.declared.register.Register.{Register}
+use Rattle.register.specs.declared.row.HeldRule.{HeldRule}
 use Rattle.register.specs.declared.row.RuleRow.{RuleRow}
 use Rattle.register.specs.declared.target_row.TargetRow.{TargetRow}
 use Rattle.register.specs.Answers.{Opening, Call, add, withdraw, link, unlink, judge, Answer, accepted, refused, permitted, denied, Holdings, Answers}
-use Rattle.register.specs.Entries.{Entry, entry_of, is_named, hits, freed}
+use Rattle.register.specs.Entries.{Entry, entry_of, is_named, is_used, hits, freed}
 use Rattle.register.specs.Requests.{targets_used}
 use Rattle.register.specs.Targets.{unlinked}
 
@@ -53,18 +54,17 @@ with_row t i x = record { home = t.home; rows = slice_set t.rows i x; targets = 
 abbrev pub with_link : Bool → Tables → ℕ → ℕ → Tables
 with_link on t k p = record { home = t.home; rows = t.rows; targets = slice_set t.targets k (record { linked = slice_set (get_or t.targets k unlinked).linked p on }) }
 
--- the row holds the note, and the rule that it reads as, under p and n
-pub record Holding (p n : ℕ) (note : List ℕ) (x : RuleRow) : Type 0 where
-  pub used : x.used ≡ true
-  pub policy : x.policy ≡ p
-  pub number : x.number ≡ n
-  pub note_is : plain_note x.rule ≡ note
-  pub rule_is : note_reads note ≡ Ok (entry_of x).rule
-  pub lawful : rule_lawful (entry_of x).rule ≡ true
+-- the note, and the rule that it reads as, under p and n
+pub record Holding (p n : ℕ) (note : List ℕ) (h : HeldRule) : Type 0 where
+  pub policy : h.name.policy ≡ p
+  pub number : h.name.number ≡ n
+  pub note_is : plain_note h.rule ≡ note
+  pub rule_is : note_reads note ≡ Ok (entry_of h).rule
+  pub lawful : rule_lawful (entry_of h).rule ≡ true
 
 -- some free row holds the rule now
 abbrev pub Placed : ℕ → ℕ → List ℕ → Tables → Tables → Type 0
-Placed p n note t t' = (i : ℕ) × (x : RuleRow) × (y : RuleRow) × At t i x × (x.used ≡ false) × Holding p n note y × (t' ≡ with_row t i y)
+Placed p n note t t' = (i : ℕ) × (x : RuleRow) × (h : HeldRule) × At t i x × (is_used x ≡ false) × Holding p n note h × (t' ≡ with_row t i (record { held = Some h }))
 
 -- the row of the rule is free now
 abbrev pub Freed : ℕ → ℕ → Tables → Tables → Type 0

@@ -1,8 +1,10 @@
 // Why a call of the register is refused.
 ghost use Rattle.std.specs.Prelude.{◌≡◌, None as NoName};
-ghost use Rattle.register.specs.Faults.{cause_report, own as own_report, refusal_of, addition_refusal};
+ghost use Rattle.notes.specs.Faults.{report as note_report};
+ghost use Rattle.register.specs.Faults.{cause_report, own as own_report, refusal_of, in_note};
 ghost use Rattle.register.specs.declared.fault.Cause.TheVariants.{Note};
 
+use super::rule_name::RuleName;
 use bits::{Layer, Report};
 use notes::NoteFault;
 
@@ -24,13 +26,6 @@ pub enum Cause {
     Instant,
     // A letter of the country is not A to Z.
     Country,
-}
-
-// A rule by its policy and its number.
-#[derive(Clone, Copy, Debug, PartialEq, Eq)]
-pub struct RuleName {
-    pub policy: u32,
-    pub number: u32,
 }
 
 // The cause, and for a fault in a note the rule that it was to become.
@@ -73,36 +68,28 @@ impl Cause {
             Cause::Country => own(15),
         }
     }
+}
 
-    // The fault of a call that brings no note.
-    pub(super) fn alone(self) -> RegisterFault
-        ensures { result ≡ record { cause = self; rule = NoName } }
-    {
-        RegisterFault {
-            cause: self,
-            rule: None,
-        }
-    }
+// Any fault but that of a note.
+impl From<Cause> for RegisterFault {
+    ghost from_gives = { λ c x. x ≡ record { cause = c; rule = NoName } };
 
-    // The fault of an addition: only a fault in the note names the rule.
-    pub(super) fn of_addition(self, policy: u32, number: u32) -> RegisterFault
-        ensures { refusal_of result ≡ addition_refusal policy number self }
-    {
-        let rule = match self {
-            Cause::Note(_) => Some(RuleName { policy, number }),
-            Cause::TooHigh
-            | Cause::UnknownTarget
-            | Cause::Taken
-            | Cause::Missing
-            | Cause::Full
-            | Cause::Instant
-            | Cause::Country => None,
-        };
-        RegisterFault { cause: self, rule }
+    fn from(cause: Cause) -> RegisterFault {
+        RegisterFault { cause, rule: None }
     }
 }
 
 impl RegisterFault {
+    // The fault of a note that was to become this rule.
+    pub(super) fn in_note(fault: NoteFault, name: RuleName) -> RegisterFault
+        ensures { refusal_of result ≡ in_note name.policy name.number (note_report fault) }
+    {
+        RegisterFault {
+            cause: fault.into(),
+            rule: Some(name),
+        }
+    }
+
     pub fn report(self) -> Report
         ensures { result ≡ (refusal_of self).report }
     {

@@ -10,7 +10,6 @@ mod adding;
 mod finding;
 mod judging;
 mod linking;
-mod naming;
 mod opening;
 mod withdrawing;
 

@@ -1,64 +1,36 @@
 // Rows of the row table.
-ghost use Rattle.std.specs.Prelude.{◌≡◌, true, false, not};
+ghost use Rattle.std.specs.Prelude.{◌≡◌, not, Some as Held, None as NoRule, MatchOption};
 ghost use Rattle.notes.specs.Notes.{rule_note, rule_value, plain_note, plain_value};
 ghost use Rattle.admission.specs.Views.{rule_in};
-ghost use Rattle.register.specs.Entries.{entry_of, is_named, hits, freed};
+ghost use Rattle.register.specs.Entries.{entry_of, is_named, is_used, hits, freed};
 
+use super::rule_name::RuleName;
 use admission::RuleView;
 use notes::{PlainRule, Rule, Side};
 
-// A plain record: a row is free, or it holds a rule under a policy and a rule number.
+// A rule under its name.
 #[derive(Clone, Copy)]
-pub struct RuleRow {
-    used: bool,
-    policy: u32,
-    number: u32,
+pub(super) struct HeldRule {
+    name: RuleName,
     rule: PlainRule,
 }
 
-impl RuleRow {
-    pub fn free() -> RuleRow
-        ensures { result.used ≡ false }
-    {
-        RuleRow {
-            used: false,
-            policy: 0,
-            number: 0,
-            rule: PlainRule::empty(),
-        }
-    }
-
-    pub(super) fn holding(policy: u32, number: u32, rule: &Rule) -> RuleRow
-        ensures used { result.used ≡ true }
-        ensures policy { result.policy ≡ policy }
-        ensures number { result.number ≡ number }
+impl HeldRule {
+    pub(super) fn new(name: RuleName, rule: &Rule) -> HeldRule
+        ensures name { result.name ≡ name }
         ensures note { plain_note result.rule ≡ rule_note rule.now }
         ensures value { plain_value result.rule ≡ rule_value rule.now }
     {
-        RuleRow {
-            used: true,
-            policy,
-            number,
+        HeldRule {
+            name,
             rule: rule.plain(),
         }
     }
 
-    pub(super) fn is_used(&self) -> bool
-        ensures { result ≡ self.now.used }
+    pub(super) fn name(&self) -> RuleName
+        ensures { result ≡ self.now.name }
     {
-        self.used
-    }
-
-    pub(super) fn is_free(&self) -> bool
-        ensures { result ≡ not self.now.used }
-    {
-        !self.is_used()
-    }
-
-    pub(super) fn policy(&self) -> u32
-        ensures { result ≡ self.now.policy }
-    {
-        self.policy
+        self.name
     }
 
     pub(super) fn side(&self) -> Side
@@ -67,27 +39,7 @@ impl RuleRow {
         self.rule.parts().side()
     }
 
-    pub(super) fn number(&self) -> u32
-        ensures { result ≡ self.now.number }
-    {
-        self.number
-    }
-
-    // Whether the row holds the rule of this policy and number.
-    pub(super) fn is_named(&self, policy: u32, number: u32) -> bool
-        ensures { result ≡ hits (is_named policy number) self.now }
-    {
-        self.used & ((self.policy == policy) & (self.number == number))
-    }
-
-    // Marks the row free; what it held stands for nothing then.
-    pub(super) fn mark_free(&mut self)
-        ensures { self.new ≡ freed self.old }
-    {
-        self.used = false;
-    }
-
-    // The rule that the row holds.
+    // The rule itself.
     pub(super) fn view(&self) -> RuleView<'_>
         ensures { rule_in result ≡ (entry_of self.now).rule }
     {
@@ -95,5 +47,56 @@ impl RuleRow {
             note: self.rule.note(),
             parts: self.rule.parts(),
         }
+    }
+
+    fn is_named(&self, name: RuleName) -> bool
+        ensures { result ≡ is_named name.policy name.number (entry_of self.now) }
+    {
+        self.name == name
+    }
+}
+
+// A plain record: a row is free, or it holds a rule under its name.
+#[derive(Clone, Copy)]
+pub struct RuleRow {
+    held: Option<HeldRule>,
+}
+
+impl RuleRow {
+    pub fn free() -> RuleRow
+        ensures { result.held ≡ NoRule }
+    {
+        RuleRow { held: None }
+    }
+
+    pub(super) fn holding(rule: HeldRule) -> RuleRow
+        ensures { result ≡ record { held = Held rule } }
+    {
+        RuleRow { held: Some(rule) }
+    }
+
+    pub(super) fn held(&self) -> Option<&HeldRule>
+        ensures { MatchOption result (self.now.held ≡ NoRule) (λ h. self.now.held ≡ Held h.now) }
+    {
+        self.held.as_ref()
+    }
+
+    pub(super) fn is_free(&self) -> bool
+        ensures { result ≡ not (is_used self.now) }
+    {
+        self.held.is_none()
+    }
+
+    // Whether the row holds the rule of this name.
+    pub(super) fn is_named(&self, name: RuleName) -> bool
+        ensures { result ≡ hits (is_named name.policy name.number) self.now }
+    {
+        self.held.as_ref().is_some_and(|rule| rule.is_named(name))
+    }
+
+    pub(super) fn mark_free(&mut self)
+        ensures { self.new ≡ freed self.old }
+    {
+        self.held = None;
     }
 }

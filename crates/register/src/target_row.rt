@@ -2,17 +2,10 @@
 ghost use Rattle.std.specs.Prelude.{◌≡◌, ◌<◌, false, slice_index_or, slice_set};
 ghost use Rattle.register.specs.Targets.{unlinked as no_links};
 
-// Which policies are linked to the target.
+// Which policies are linked to the target: a policy above 63 is not.
 #[derive(Clone, Copy)]
 pub struct TargetRow {
     linked: [bool; 64],
-}
-
-// The flag at a place, or false behind the end.
-fn flag_at(flags: &[bool], i: usize) -> bool
-    ensures { result ≡ slice_index_or flags.now i false }
-{
-    if i < flags.len() { flags[i] } else { false }
 }
 
 impl TargetRow {
@@ -27,7 +20,7 @@ impl TargetRow {
     pub(super) fn has(&self, policy: u32) -> bool
         ensures { result ≡ slice_index_or self.now.linked policy false }
     {
-        flag_at(&self.linked, policy as usize)
+        self.linked.get(policy as usize).copied().unwrap_or(false)
     }
 
     pub(super) fn mark(&mut self, policy: u32, on: bool)

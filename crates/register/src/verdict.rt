@@ -1,6 +1,8 @@
 // What a request is answered.
 ghost use Rattle.std.specs.Prelude.{◌≡◌, ◌+◌, ◌^◌, ◌<◌};
-ghost use Rattle.register.specs.Verdicts.{number_in, before, with_one_more};
+ghost use Rattle.register.specs.Verdicts.{number_in, with_one_more};
+
+use super::rule_name::RuleName;
 
 #[derive(Clone, Copy, PartialEq, Eq, Debug)]
 pub enum Verdict {
@@ -15,43 +17,30 @@ pub enum Verdict {
 
 impl Verdict {
     // The verdict with one admitting rule more.
-    pub(super) fn with(self, policy: u32, number: u32) -> Verdict
+    pub(super) fn with(self, name: RuleName) -> Verdict
         requires { number_in self + 1 < 2 ^ 32 }
-        ensures { result ≡ with_one_more self policy number }
+        ensures { result ≡ with_one_more self name.policy name.number }
     {
         match self {
             Verdict::Deny => Verdict::Permit {
-                policy,
-                number,
+                policy: name.policy,
+                number: name.number,
                 count: 1,
             },
             Verdict::Permit {
-                policy: lowest_policy,
-                number: lowest_number,
+                policy,
+                number,
                 count,
             } => {
+                let lowest = RuleName { policy, number };
                 let count = count + 1;
-                if comes_before(policy, number, lowest_policy, lowest_number) {
-                    Verdict::Permit {
-                        policy,
-                        number,
-                        count,
-                    }
-                } else {
-                    Verdict::Permit {
-                        policy: lowest_policy,
-                        number: lowest_number,
-                        count,
-                    }
+                let lowest = if name < lowest { name } else { lowest };
+                Verdict::Permit {
+                    policy: lowest.policy,
+                    number: lowest.number,
+                    count,
                 }
             }
         }
     }
-}
-
-// Whether the first rule is lower: its policy is, or the policies are equal and its number is.
-fn comes_before(policy: u32, number: u32, other_policy: u32, other_number: u32) -> bool
-    ensures { result ≡ before policy number other_policy other_number }
-{
-    (policy < other_policy) | ((policy == other_policy) & (number < other_number))
 }

@@ -1,40 +1,38 @@
 // Adding a rule.
-ghost use Rattle.register.specs.Answers.{add as add_call, added, done};
+ghost use Rattle.std.specs.Prelude.{◌≡◌, Ok, Err, MatchResult};
+ghost use Rattle.bits.specs.declared.fault.Report.{Report};
+ghost use Rattle.notes.specs.Notes.{rule_note, rule_value};
+ghost use Rattle.notes.specs.Rules.{note_reads};
+ghost use Rattle.register.specs.Answers.{add as add_call, done};
+ghost use Rattle.register.specs.Faults.{refusal_of, in_note};
 ghost use Rattle.register.specs.Tables.{tables, Served};
 
 use super::super::fault::{Cause, RegisterFault};
-use super::super::row::RuleRow;
+use super::super::row::{HeldRule, RuleRow};
+use super::super::rule_name::RuleName;
 use super::Register;
-use super::finding::{find_free, find_rule};
-use super::naming::check_name;
 use notes::Rule;
 
-impl Register {
-    fn enter(&mut self, policy: u32, number: u32, note: &[u8]) -> Result<(), Cause>
-        ensures { Served (add_call policy number note.now) (tables self.old) (added policy number result) (tables self.new) }
-    {
-        check_name(policy, number)?;
-        let rule = Rule::read(note)?;
-        match find_rule(self.used_rows(), policy, number) {
-            Some(_) => return Err(Cause::Taken),
-            None => {}
-        }
-        match find_free(self.used_rows()) {
-            Some(i) => {
-                self.rows[i] = RuleRow::holding(policy, number, &rule);
-                Ok(())
-            }
-            None => Err(Cause::Full),
-        }
-    }
+// A fault of the note tells which rule the note was to become.
+fn read_rule(note: &[u8], name: RuleName) -> Result<Rule, RegisterFault>
+    ensures { MatchResult result (λ x. (rule_note x ≡ note.now) × (note_reads note.now ≡ Ok (rule_value x))) (λ f. (e : Report) × (note_reads note.now ≡ Err e) × (refusal_of f ≡ in_note name.policy name.number e)) }
+{
+    Rule::read(note).map_err(|fault| RegisterFault::in_note(fault, name))
+}
 
+impl Register {
     // Stores the note's rule under the policy and the number, in a free row.
     pub fn add(&mut self, policy: u32, number: u32, note: &[u8]) -> Result<(), RegisterFault>
         ensures { Served (add_call policy number note.now) (tables self.old) (done result) (tables self.new) }
     {
-        match self.enter(policy, number, note) {
-            Ok(()) => Ok(()),
-            Err(cause) => Err(cause.of_addition(policy, number)),
+        let name = RuleName { policy, number };
+        name.check()?;
+        let rule = read_rule(note, name)?;
+        if self.has_rule(name) {
+            return Err(Cause::Taken.into());
         }
+        let i = self.find_free().ok_or(Cause::Full)?;
+        self.rows[i] = RuleRow::holding(HeldRule::new(name, &rule));
+        Ok(())
     }
 }

@@ -1,30 +1,32 @@
 // Finding rows.
-ghost use Rattle.std.specs.Prelude.{◌≡◌, ◌<◌, true, false, length, get_or, count_by, MatchOption, slice_index_or};
-ghost use Rattle.register.specs.Entries.{is_named, every, hits};
-ghost use Rattle.register.specs.declared.row.RuleRow.{RuleRow as Row};
+ghost use Rattle.std.specs.Prelude.{◌≡◌, not, position};
+ghost use Rattle.register.specs.Entries.{is_named, is_used, hits};
+ghost use Rattle.register.specs.Answers.{stands};
+ghost use Rattle.register.specs.Tables.{tables, used_rows, holdings};
 
 use super::super::row::RuleRow;
+use super::super::rule_name::RuleName;
+use super::Register;
 
-// The place of the rule of this policy and number.
-pub(super) fn find_rule(rows: &[RuleRow], policy: u32, number: u32) -> Option<usize>
-    ensures { MatchOption result (count_by (hits (is_named policy number)) rows.now ≡ 0) (λ i. (i < length rows.now) × (0 < count_by (hits (is_named policy number)) rows.now) × ((d : Row) → hits (is_named policy number) (slice_index_or rows.now i d) ≡ true)) }
-{
-    for (i, row) in rows.iter().enumerate() {
-        if row.is_named(policy, number) {
-            return Some(i);
-        }
+impl Register {
+    // Whether there is a rule of this name.
+    pub(super) fn has_rule(&self, name: RuleName) -> bool
+        ensures { result ≡ stands (holdings (tables self.now)) name.policy name.number }
+    {
+        self.find_rule(name).is_some()
     }
-    None
-}
 
-// The place of a free row.
-pub(super) fn find_free(rows: &[RuleRow]) -> Option<usize>
-    ensures { MatchOption result (count_by (hits every) rows.now ≡ length rows.now) (λ i. (i < length rows.now) × ((d : Row) → (get_or rows.now i d).used ≡ false)) }
-{
-    for (i, row) in rows.iter().enumerate() {
-        if row.is_free() {
-            return Some(i);
-        }
+    // The place of the rule of this name.
+    pub(super) fn find_rule(&self, name: RuleName) -> Option<usize>
+        ensures { result ≡ position (hits (is_named name.policy name.number)) (used_rows (tables self.now)) }
+    {
+        self.used_rows().iter().position(|row| row.is_named(name))
     }
-    None
+
+    // The place of a free row.
+    pub(super) fn find_free(&self) -> Option<usize>
+        ensures { result ≡ position (λ x. not (is_used x)) (used_rows (tables self.now)) }
+    {
+        self.used_rows().iter().position(RuleRow::is_free)
+    }
 }

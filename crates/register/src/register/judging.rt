@@ -2,19 +2,19 @@
 ghost use Rattle.std.specs.Prelude.{◌≡◌, ◌&&◌, List, ◌∷◌, length, Some, None, vec_len, MatchResult};
 ghost use Rattle.texts.specs.TextValues.{domain_text};
 ghost use Rattle.admission.specs.Requests.{request_of};
-ghost use Rattle.register.specs.Answers.{Opening, judge as judge_call, Decision, Judgement, verdict_given, judged_so, decided};
-ghost use Rattle.register.specs.Entries.{entry_of, hits};
+ghost use Rattle.register.specs.Answers.{Opening, judge as judge_call, Decision, verdict_given, decided};
+ghost use Rattle.register.specs.Entries.{entry_of};
 ghost use Rattle.register.specs.Faults.{cause_refusal};
-ghost use Rattle.register.specs.Requests.{target_refusal, request_refusal, eligible, passes, counts};
+ghost use Rattle.register.specs.Requests.{target_refusal, eligible, passes};
 ghost use Rattle.register.specs.Season.{Met, Through, Law};
 ghost use Rattle.register.specs.Tables.{tables, is_linked, holdings, Served};
 
 use super::super::fault::{Cause, RegisterFault};
 use super::super::request::{Request, Target};
-use super::super::row::RuleRow;
+use super::super::row::HeldRule;
+use super::super::rule_name::LAST_POLICY;
 use super::super::verdict::Verdict;
 use super::Register;
-use super::naming::LAST_POLICY;
 use admission::CheckedRequest;
 use members::MemberList;
 use notes::Side;
@@ -41,42 +41,34 @@ impl Register {
     fn is_linked(&self, target: u32, policy: u32) -> bool
         ensures { result ≡ is_linked (tables self.now) target policy }
     {
-        if !self.has_target(target) {
-            return false;
-        }
-        self.targets[target as usize].has(policy)
+        self.has_target(target) && self.targets[target as usize].has(policy)
     }
 
-    fn is_eligible(&self, row: &RuleRow, target: Target) -> bool
-        ensures { result ≡ eligible (is_linked (tables self.now)) target (entry_of row.now) }
+    fn is_eligible(&self, rule: &HeldRule, target: Target) -> bool
+        ensures { result ≡ eligible (is_linked (tables self.now)) target (entry_of rule.now) }
     {
+        let policy = rule.name().policy;
         match target {
             Target::Number(number) => {
-                row.side().same(Side::Privileges) & self.is_linked(number, row.policy())
+                rule.side().same(Side::Privileges) & self.is_linked(number, policy)
             }
-            Target::Policy(policy) => {
-                row.side().same(Side::SelfPrivileges) & (row.policy() == policy)
+            Target::Policy(number) => {
+                rule.side().same(Side::SelfPrivileges) & (policy == number)
             }
         }
     }
 
-    // Whether the row holds an eligible rule that admits the request.
-    fn is_passed<L: MemberList>(
+    // Whether the rule is eligible and admits the request.
+    fn passes<L: MemberList>(
         &self,
-        row: &RuleRow,
+        rule: &HeldRule,
         target: Target,
         request: &CheckedRequest,
         members: &L,
     ) -> bool
-        ensures { result ≡ hits (passes (domain_text self.now.home) (is_linked (tables self.now)) target (L.pairs members.now) (request_of request.now)) row.now }
+        ensures { result ≡ passes (domain_text self.now.home) (is_linked (tables self.now)) target (L.pairs members.now) (request_of request.now) (entry_of rule.now) }
     {
-        if !row.is_used() {
-            return false;
-        }
-        if !self.is_eligible(row, target) {
-            return false;
-        }
-        row.view().admits(&self.home, request, members)
+        self.is_eligible(rule, target) && rule.view().admits(&self.home, request, members)
     }
 
     // Looks at each used row once.
@@ -90,19 +82,13 @@ impl Register {
     {
         let mut verdict = Verdict::Deny;
         for row in self.used_rows() {
-            if self.is_passed(row, target, request, members) {
-                verdict = verdict.with(row.policy(), row.number());
+            if let Some(rule) = row.held() {
+                if self.passes(rule, target, request, members) {
+                    verdict = verdict.with(rule.name());
+                }
             }
         }
         verdict
-    }
-
-    fn decide<L: MemberList>(&self, request: &Request, members: &L) -> Result<Verdict, Cause>
-        ensures { Judgement (request_refusal (vec_len self.now.targets) request.now) (holdings (tables self.now)).count (counts (domain_text self.now.home) (is_linked (tables self.now)) request.now (L.pairs members.now)) (judged_so result) }
-    {
-        self.check_target(request.target)?;
-        let checked = request.check()?;
-        Ok(self.survey(request.target, &checked, members))
     }
 
     // Judges a request with a member list. Over every season of calls that the register has met since it was opened, its
@@ -115,9 +101,8 @@ impl Register {
         ensures answer { Served (judge_call request.now (L.pairs members.now)) (tables self.now) (decided result) (tables self.now) }
         ensures season { (o : Opening) (ms : List Met) → Through o ms (tables self.now) → Law o (record { call = judge_call request.now (L.pairs members.now); answer = decided result } ∷ ms) }
     {
-        match self.decide(request, members) {
-            Ok(verdict) => Ok(verdict),
-            Err(cause) => Err(cause.alone()),
-        }
+        self.check_target(request.target)?;
+        let checked = request.check()?;
+        Ok(self.survey(request.target, &checked, members))
     }
 }

@@ -1,11 +1,11 @@
 // Linking policies to targets.
 ghost use Rattle.std.specs.Prelude.{◌≡◌, true, false, ◌&&◌, length, vec_len, nat_lt};
-ghost use Rattle.register.specs.Answers.{link as link_call, unlink as unlink_call, completed, done};
+ghost use Rattle.register.specs.Answers.{link as link_call, unlink as unlink_call, done};
 ghost use Rattle.register.specs.Requests.{targets_used};
 ghost use Rattle.register.specs.Tables.{tables, Served, LinkSet};
 
 use super::super::fault::{Cause, RegisterFault};
-use super::naming::LAST_POLICY;
+use super::super::rule_name::LAST_POLICY;
 use super::{Register, USED_TARGETS};
 
 impl Register {
@@ -17,14 +17,14 @@ impl Register {
     }
 
     // Enters the link, or takes it away.
-    fn set_link(&mut self, target: u32, policy: u32, on: bool) -> Result<(), Cause>
-        ensures { LinkSet on target policy (tables self.old) (completed result) (tables self.new) }
+    fn set_link(&mut self, target: u32, policy: u32, on: bool) -> Result<(), RegisterFault>
+        ensures { LinkSet on target policy (tables self.old) (done result) (tables self.new) }
     {
         if !self.has_target(target) {
-            return Err(Cause::UnknownTarget);
+            return Err(Cause::UnknownTarget.into());
         }
         if policy > LAST_POLICY {
-            return Err(Cause::TooHigh);
+            return Err(Cause::TooHigh.into());
         }
         self.targets[target as usize].mark(policy, on);
         Ok(())
@@ -34,19 +34,13 @@ impl Register {
     pub fn link(&mut self, target: u32, policy: u32) -> Result<(), RegisterFault>
         ensures { Served (link_call target policy) (tables self.old) (done result) (tables self.new) }
     {
-        match self.set_link(target, policy, true) {
-            Ok(()) => Ok(()),
-            Err(cause) => Err(cause.alone()),
-        }
+        self.set_link(target, policy, true)
     }
 
     // Takes the link away; where there is none, this has no effect.
     pub fn unlink(&mut self, target: u32, policy: u32) -> Result<(), RegisterFault>
         ensures { Served (unlink_call target policy) (tables self.old) (done result) (tables self.new) }
     {
-        match self.set_link(target, policy, false) {
-            Ok(()) => Ok(()),
-            Err(cause) => Err(cause.alone()),
-        }
+        self.set_link(target, policy, false)
     }
 }

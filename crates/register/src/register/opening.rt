@@ -1,5 +1,5 @@
 // Opening a register.
-ghost use Rattle.std.specs.Prelude.{◌≡◌, ◌≤◌, ◌++◌, map, length, take, drop, vec_len};
+ghost use Rattle.std.specs.Prelude.{◌≡◌, map, vec_len};
 ghost use Rattle.texts.specs.TextValues.{domain_text};
 ghost use Rattle.register.specs.Entries.{freed};
 ghost use Rattle.register.specs.Tables.{tables, opening, Cleared, Opened};
@@ -10,24 +10,19 @@ use super::super::target_row::TargetRow;
 use super::{Register, USED_ROWS, USED_TARGETS};
 use texts::Domain;
 
-// Marks the first n rows free.
-fn free_rows(rows: &mut Vec<RuleRow>, n: usize)
-    requires { n ≤ vec_len rows.old }
-    ensures { rows.new.items ≡ map freed (take n rows.old.items) ++ drop n rows.old.items }
+fn free_rows(rows: &mut [RuleRow])
+    ensures { rows.new ≡ map freed rows.old }
 {
-    for i in 0..n {
-        rows[i].mark_free();
+    for row in rows.iter_mut() {
+        row.mark_free();
     }
 }
 
-// Takes away every link of the first n targets.
-fn clear_targets(targets: &mut Vec<TargetRow>, n: usize)
-    requires { n ≤ vec_len targets.old }
-    ensures { targets.new.items ≡ map (λ _. no_links) (take n targets.old.items) ++ drop n targets.old.items }
+// Takes away every link.
+fn clear_targets(targets: &mut [TargetRow])
+    ensures { targets.new ≡ map (λ _. no_links) targets.old }
 {
-    for i in 0..n {
-        targets[i] = TargetRow::unlinked();
-    }
+    targets.fill(TargetRow::unlinked());
 }
 
 impl Register {
@@ -37,9 +32,9 @@ impl Register {
         ensures opened { Opened (record { home = domain_text home; rows = vec_len rows; targets = vec_len targets }) (tables result) }
     {
         let n = rows.len().min(USED_ROWS);
-        free_rows(&mut rows, n);
+        free_rows(&mut rows[0..n]);
         let m = targets.len().min(USED_TARGETS);
-        clear_targets(&mut targets, m);
+        clear_targets(&mut targets[0..m]);
         Register {
             home,
             rows,

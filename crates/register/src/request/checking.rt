@@ -19,25 +19,16 @@ const NO_ADDRESS: Address = Address {
 fn check_country(country: Option<Country>) -> Result<(), Cause>
     ensures { MatchResult result (λ _. country_refusal country ≡ None) (λ c. country_refusal country ≡ Some (cause_refusal c)) }
 {
-    match country {
-        Some(letters) => {
-            if letters.is_lawful() {
-                Ok(())
-            } else {
-                Err(Cause::Country)
-            }
-        }
-        None => Ok(()),
+    if country.is_some_and(|letters| !letters.is_lawful()) {
+        return Err(Cause::Country);
     }
+    Ok(())
 }
 
 fn check_instant(seconds: u32) -> Result<Instant, Cause>
     ensures { MatchResult result (λ i. (instant_refusal seconds ≡ None) × (i.seconds ≡ seconds)) (λ c. instant_refusal seconds ≡ Some (cause_refusal c)) }
 {
-    match Instant::new(seconds) {
-        Some(instant) => Ok(instant),
-        None => Err(Cause::Instant),
-    }
+    Instant::new(seconds).ok_or(Cause::Instant)
 }
 
 impl Request {

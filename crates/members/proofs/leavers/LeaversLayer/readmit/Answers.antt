@@ -1,30 +1,35 @@
 use Rattle.std.proofs.Common.{sym, refl, ap, ◌∙◌, subst}
+use Rattle.std.proofs.lemmas.List.Quantifiers.{position-Some}
+use Rattle.std.proofs.lemmas.List.Folds.{list_any_at}
 use Rattle.texts.specs.TextValues.{identity_text}
-use Rattle.members.specs.Leavers.{OnceEach, without_noted}
+use Rattle.members.specs.Leavers.{no_leaver, is_leaver, OnceEach, without_noted}
+use Rattle.members.proofs.Counts.{no_place}
 use Rattle.members.proofs.Noting.{once_cleared, regained_cleared, regained_known}
 use Rattle.members.proofs.leavers.LeaversLayer.readmit.Goals as goal
 
 pub invariant_of-self : goal.invariant_of-self
 invariant_of-self g c =
     let self = c.args.self.now in
-    let found = c.in-Some.ensures in
-    record { once = subst OnceEach (sym c.clear.ensures) (once_cleared self.table.entries _ found.2 _ found.3 self.once) }
+    let found = position-Some _ self.table.entries _ no_leaver (sym c.in-Some.ensures) in
+    record { once = subst OnceEach (sym c.clear.ensures) (once_cleared self.table.entries _ found.0 _ found.1 self.once) }
 
 pub returns-in-Some : goal.returns-in-Some
 returns-in-Some g c =
     let self = c.args.self.now in
     let below = g.L.MemberList.pairs self.below in
-    let found = c.in-Some.ensures in
+    let i = identity_text c.args.identity.now in
+    let found = position-Some _ self.table.entries _ no_leaver (sym c.in-Some.ensures) in
+    let there = list_any_at (is_leaver i) self.table.entries _ no_leaver found.0 found.1 in
     record {
       below = refl;
-      noted = rw found.0 (c.in-Some.k, found.2, found.3, c.clear.ensures);
-      meaning = λ j s. ap (λ l. without_noted l below j s) c.clear.ensures ∙ regained_cleared self.table.entries _ found.2 _ found.3 self.once below j s;
+      noted = rw there (c.in-Some.k, found.0, found.1, c.clear.ensures);
+      meaning = λ j s. ap (λ l. without_noted l below j s) c.clear.ensures ∙ regained_cleared self.table.entries _ found.0 _ found.1 self.once below j s;
     }
 
-pub returns-in-None : goal.returns-in-None
-returns-in-None g c =
+pub returns-in_default : goal.returns-in_default
+returns-in_default g c =
     let self = c.args.self.now in
-    let away = c.in-None.ensures in
+    let away = no_place (is_leaver (identity_text c.args.identity.now)) self.table.entries (sym c.find.ensures ∙ c.in_default.is) in
     record {
       below = refl;
       noted = rw away refl;

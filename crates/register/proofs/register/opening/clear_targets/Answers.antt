@@ -1,11 +1,8 @@
-use Rattle.std.proofs.Common.{set, vec_items, ap, ◌∙◌, arith}
-use Rattle.std.proofs.lemmas.List.Edits.{map_over_more}
-use Rattle.register.specs.Targets.{unlinked}
+use Rattle.std.proofs.Common.{length, replicate, ap, ◌∙◌}
+use Rattle.register.proofs.Opening.{all_unlinked}
 use Rattle.register.proofs.register.opening.clear_targets.Goals as goal
 
-pub loop-i-preserved : goal.loop-i-preserved
-loop-i-preserved c =
-    let before = c.args.targets.now in
-    let now = c.loop-i.targets in
-    ap (set (vec_items now) c.loop-i.i) c.unlinked.ensures
-    ∙ map_over_more (λ _. unlinked) (vec_items before) (vec_items now) c.loop-i.i c.index_mut.result.now (omega (arith, before.ok.0)) c.loop-i.invariant c.index_mut.ensures.value
+pub returns : goal.returns
+returns c =
+    let targets = c.args.targets.now in
+    c.fill.ensures.after (λ y e. e) ∙ ap (replicate (length targets)) c.unlinked.ensures ∙ all_unlinked targets

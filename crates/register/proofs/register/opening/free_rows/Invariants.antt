@@ -1,6 +1,6 @@
-use Rattle.std.proofs.Common.{◌≡◌, ◌++◌, map, take, drop, vec_items}
+use Rattle.std.proofs.Common.{◌≡◌, ◌++◌, map, take, drop}
 use Rattle.register.specs.Entries.{freed}
 use Rattle.register.proofs.register.opening.free_rows.Given as goal
 
-abbrev pub invariant-loop-i : goal.invariant-loop-i
-invariant-loop-i l = vec_items l.rows ≡ map freed (take l.i (vec_items l.initial.rows)) ++ drop l.i (vec_items l.initial.rows)
+abbrev pub invariant-loop-row : goal.invariant-loop-row
+invariant-loop-row l = l.rows ≡ map freed (take l.row-index l.initial.rows) ++ drop l.row-index l.initial.rows
