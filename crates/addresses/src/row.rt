@@ -4,9 +4,9 @@ ghost use Rattle.addresses.specs.Forms.{separator as separator_of};
 ghost use Rattle.addresses.specs.Rows.{parts_of, RowOf, empty, row_with};
 ghost use Rattle.texts.specs.Pieces.{pieces};
 
-use super::cut::split_once;
 use super::form::{base, part, separator, size};
 use notes::Family;
+use texts::split_once;
 
 // The parts as one number, the first the most significant, and how many they are.
 #[derive(Clone, Copy)]

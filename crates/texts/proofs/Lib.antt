@@ -1,5 +1,6 @@
 pub mod Bools
 pub mod PieceLaws
+pub mod Cuts
 pub mod Paths
 pub mod Grammars
 pub mod Matchings

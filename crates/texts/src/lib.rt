@@ -7,6 +7,7 @@ mod full_form;
 mod identity;
 mod matching;
 mod pattern;
+mod pieces;
 mod same;
 mod segments;
 mod standing;
@@ -20,6 +21,7 @@ pub use matching::{
     domain_covers, domain_matches, matching_is_replacing, pattern_covers, pattern_matches,
 };
 pub use pattern::is_pattern;
+pub use pieces::split_once;
 pub use same::{same_decides, same_text};
 pub use standing::{Standing, is_standing};
 pub use unlawful::Unlawful;
