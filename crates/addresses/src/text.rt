@@ -21,10 +21,7 @@ const GROUP_BITS: usize = 16;
 pub fn address(word: &[u8]) -> Option<Address>
     ensures { result ≡ address_of word.now }
 {
-    match whole(Family::Four, word) {
-        Some(address) => Some(address),
-        None => six(word),
-    }
+    whole(Family::Four, word).or_else(|| six(word))
 }
 
 // The IPv6 address that the word writes.
@@ -41,14 +38,12 @@ fn six(word: &[u8]) -> Option<Address>
 fn whole(family: Family, word: &[u8]) -> Option<Address>
     ensures { result ≡ address_from family (parts_of family (pieces (separator_of family) word.now)) }
 {
-    let row = Row::read(family, word)?;
-    if row.count != size(family) {
-        return None;
-    }
-    Some(Address {
-        family,
-        bits: row.bits,
-    })
+    Row::read(family, word)
+        .filter(|row| row.count == size(family))
+        .map(|row| Address {
+            family,
+            bits: row.bits,
+        })
 }
 
 // The IPv6 address with these groups before and after a double colon.
