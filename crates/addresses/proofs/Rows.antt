@@ -1,14 +1,18 @@
 -- Rows of parts, one part more at a time. Assumes nothing.
-use Rattle.std.proofs.Common.{◌≡◌, ℕ, suc, ◌+◌, ◌*◌, ◌^◌, ◌<◌, ◌≤◌, Bool, true, false, cond, leb, List, [], ◌∷◌, length, Some, None, Option, sym, refl, ap, ◌∙◌, le_trans, lt_of_lt_of_le, pow-suc, zero-add, add-one, arith, lit≤}
+use Rattle.std.proofs.Common.{◌≡◌, ℕ, suc, ◌+◌, ◌*◌, ◌^◌, ◌<◌, ◌≤◌, Bool, true, false, cond, eqb, leb, List, [], ◌∷◌, length, Some, None, Option, MatchOption, sym, refl, ap, ◌∙◌, le_trans, lt_of_lt_of_le, pow-suc, zero-add, add-one, arith, lit≤}
 use native.Mathlib.Nat.{pow-le-pow_right}
 use lib.Arith.{digits_lt}
 use Rattle.std.specs.Int.Digits.{number_from_digits, number_from_digits_after}
+use Rattle.std.specs.List.{slice_split}
+use Rattle.std.specs.Option.{option_map}
 use Rattle.std.proofs.lemmas.Bool.{le-leb, lt-leb, leb-false, cond-true, cond-false}
 use Rattle.notes.specs.declared.family.Family.{Family}
 use Rattle.notes.specs.declared.family.Family.TheVariants.{Four, Six}
+use Rattle.addresses.specs.declared.row.Row.{Row}
 use Rattle.texts.specs.Pieces.{pieces}
+use Rattle.texts.proofs.Cuts.{pieces_is}
 use Rattle.addresses.specs.Forms.{separator, size, base, part_of}
-use Rattle.addresses.specs.Rows.{in_front, parts_of, RowValue, empty, row_with}
+use Rattle.addresses.specs.Rows.{in_front, parts_of, RowValue, row_value, empty, row_with}
 
 pub base_pos : (f : Family) → 0 < base f
 base_pos Four = omega arith
@@ -82,25 +86,40 @@ stop : (row : RowValue) (p : List ℕ) (ps : List (List ℕ)) → None ≡ row_w
 unfolding parts_of
 stop row p ps e = stop_by row (part_of row.family p) (parts_of row.family ps) e
 
--- one turn of a reading goes on with the next piece, or ends
-pub on :
-    (f : Family) (row then : RowValue) (sep : ℕ) (rest p after : List ℕ) → row.family ≡ f → sep ≡ separator f → pieces sep rest ≡ p ∷ pieces sep after
-    → Some then ≡ row_with row (parts_of row.family (p ∷ []))
-    → row_with then (parts_of f (pieces (separator f) after)) ≡ row_with row (parts_of f (pieces (separator f) rest))
-on f row then sep rest p after same s cut e =
-    rw (← same, (rw (s, ← same) at cut)) (step row then p (pieces (separator row.family) after) e)
-
-pub off :
-    (f : Family) (row : RowValue) (sep : ℕ) (rest p after : List ℕ) → row.family ≡ f → sep ≡ separator f → pieces sep rest ≡ p ∷ pieces sep after
-    → None ≡ row_with row (parts_of row.family (p ∷ []))
-    → None ≡ row_with row (parts_of f (pieces (separator f) rest))
-off f row sep rest p after same s cut e =
-    rw (← same, (rw (s, ← same) at cut)) (stop row p (pieces (separator row.family) after) e)
-
 -- a row that was read is of the family that was asked for
 pub of_family : (row : RowValue) (o : Option (List ℕ)) (then : RowValue) → Some then ≡ row_with row o → then.family ≡ row.family
 of_family row None then e = cc
 of_family row (Some ns) then e = ap (λ r. r.family) (with_room (leb (row.count + length ns) (size row.family)) then _ e).1
+
+-- the row so far and the pieces that are left decide what is read
+pub record Reading (f : Family) (read : Option RowValue) (ps : List (List ℕ)) (row : Row) : Type 0 where
+  pub family : row.family ≡ f
+  pub rest : row_with (row_value row) (parts_of f ps) ≡ read
+
+pub begun : (f : Family) (read : Option RowValue) (sep : ℕ) (text : List ℕ) (row : Row) → row_value row ≡ empty f → sep ≡ separator f → read ≡ row_with (empty f) (parts_of f (pieces (separator f) text)) → Reading f read (slice_split (λ b. eqb b sep) text) row
+begun f read sep text row e s r = record {
+  family = ap (λ v. v.family) e;
+  rest = rw (e, ← pieces_is sep text, s) (sym r);
+}
+
+-- one piece more goes on with the next row, or ends the reading
+pub turn :
+    (f : Family) (read : Option RowValue) (p : List ℕ) (row : Row) (then : Option Row) → option_map row_value then ≡ row_with (row_value row) (parts_of row.family (p ∷ []))
+    → MatchOption then ((ps : List (List ℕ)) → Reading f read (p ∷ ps) row → None ≡ read) (λ next. (ps : List (List ℕ)) → Reading f read (p ∷ ps) row → Reading f read ps next)
+turn f read p row None e = λ ps r. rw (← r.family) (stop (row_value row) p ps e) ∙ r.rest
+turn f read p row (Some next) e = λ ps r. record {
+  family = of_family (row_value row) _ (row_value next) e ∙ r.family;
+  rest = rw (← r.family) (step (row_value row) (row_value next) p ps e) ∙ r.rest;
+}
+
+pub ended : (f : Family) (read : Option RowValue) (o : Option Row) → MatchOption o (None ≡ read) (λ row. Reading f read [] row) → option_map row_value o ≡ read
+unfolding parts_of
+ended f read None r = r
+ended f read (Some row) r =
+    let here : row.count + 0 ≡ row.count = omega arith in
+    sym (cond-true (leb row.count (size row.family)) (Some (row_value row)) None (le-leb _ _ row.few))
+    ∙ ap (λ n. cond (leb n (size row.family)) (Some (record { family = row.family; bits = row.bits; count = n })) None) (sym here)
+    ∙ r.rest
 
 -- what a row that was read says of the parts
 pub record Counted (f : Family) (o : Option (List ℕ)) (row : RowValue) : Type 0 where

@@ -10,7 +10,7 @@ in_front_is : (b : ℕ) (ps : List (List ℕ)) → in_front b ps ≡ onto_first 
 in_front_is b [] = refl
 in_front_is b (p ∷ ps) = refl
 
-pieces_is : (sep : ℕ) (bs : List ℕ) → pieces sep bs ≡ slice_split (λ b. eqb b sep) bs
+pub pieces_is : (sep : ℕ) (bs : List ℕ) → pieces sep bs ≡ slice_split (λ b. eqb b sep) bs
 unfolding pieces
 pieces_is sep [] = refl
 pieces_is sep (b ∷ bs) = rw (pieces_is sep bs) (ap (λ ps. cond (eqb b sep) ([] ∷ slice_split (λ b. eqb b sep) bs) ps) (in_front_is b (slice_split (λ b. eqb b sep) bs)))

@@ -8,7 +8,6 @@ ghost use Rattle.texts.specs.Pieces.{pieces};
 use super::super::form::{base, part, separator, size};
 use super::Row;
 use notes::Family;
-use texts::split_once;
 
 impl Row {
     pub(crate) fn new(family: Family) -> Row
@@ -25,13 +24,9 @@ impl Row {
     pub(crate) fn read(family: Family, text: &[u8]) -> Option<Row>
         ensures { option_map row_value result ≡ row_with (empty family) (parts_of family (pieces (separator_of family) text.now)) }
     {
-        let mut row = Row::new(family);
-        let mut rest = text;
-        while let Some((piece, after)) = split_once(rest, separator(family)) {
-            row = row.push(piece)?;
-            rest = after;
-        }
-        row.push(rest)
+        let separator = separator(family);
+        text.split(|byte| *byte == separator)
+            .try_fold(Row::new(family), |row, piece| row.push(piece))
     }
 
     // Whether the row has as many parts as an address.
