@@ -1,69 +1,57 @@
--- A text up to its first separator is its first piece, and a text around its first double colon. Assumes nothing.
-use Rattle.std.proofs.Common.{◌≡◌, ℕ, zero, suc, ◌+◌, ◌-◌, ◌<◌, false, eqb, List, [], ◌∷◌, length, get_or, take, drop, Some, None, refl, ap, ◌∙◌, inl, inr, arith}
+-- A text around its first double colon. Assumes nothing.
+use Rattle.std.proofs.Common.{◌≡◌, ℕ, zero, suc, ◌+◌, ◌<◌, ◌≤◌, Bool, true, false, List, [], ◌∷◌, length, take, drop, get_or, Some, None, Option, IfSome, IsSomeAnd, MatchOption, IsTrue, refl, sym, ap, ◌∙◌, arith, Bor}
+use denote.Param.Members.{Mut, Called}
 use Rattle.std.specs.Option.{option_map}
-use Rattle.std.proofs.lemmas.Bool.{eq-eqb, ne_eqb, cases_eq, and_from, and_left, and_right, cond-true, cond-false}
-use Rattle.texts.specs.Pieces.{pieces}
+use Rattle.std.specs.Str.{bytes_eq}
+use Rattle.std.specs.Iterator.Runs.{Run, IsWindowsRun, AllItemsGive, IsFirstToGive, CallKeepsClosure}
+use Rattle.std.proofs.lemmas.Bool.{cond-true, cond-false}
 use Rattle.addresses.specs.Gaps.{opens, around}
 
--- no separator stands among the first n bytes
-abbrev pub Free : ℕ → List ℕ → ℕ → Type 0
-Free sep bs n = (k : ℕ) → k < n → get_or bs k 0 ≡ sep → ⊥
+-- the test whether two bytes are a double colon
+abbrev pub double : List ℕ → Bool
+double pair = bytes_eq pair (58 ∷ 58 ∷ [])
 
-pub pieces_whole : (sep : ℕ) (bs : List ℕ) → Free sep bs (length bs) → pieces sep bs ≡ bs ∷ []
-unfolding pieces
-pieces_whole sep [] free = refl
-pieces_whole sep (b ∷ bs) free =
-    let rest = pieces_whole sep bs (λ k h. free (suc k) (omega arith)) in
-    let other = ne_eqb b sep (free 0 (omega arith)) in
-    rw (other, rest)
+-- the first double colon begins at i, or there is none
+abbrev pub FirstAt : List ℕ → Option ℕ → Type 0
+FirstAt bs None = (k : ℕ) → k + 2 ≤ length bs → double (take 2 (drop k bs)) ≡ false
+FirstAt bs (Some i) = (i + 2 ≤ length bs) × (double (take 2 (drop i bs)) ≡ true) × ((k : ℕ) → k < i → double (take 2 (drop k bs)) ≡ false)
 
-pub pieces_cut : (sep : ℕ) (bs : List ℕ) (i : ℕ) → i < length bs → get_or bs i 0 ≡ sep → Free sep bs i → pieces sep bs ≡ take i bs ∷ pieces sep (drop (suc i) bs)
-unfolding pieces
-pieces_cut sep [] i inside here free = absurd (omega arith)
-pieces_cut sep (b ∷ bs) zero inside here free = rw (eq-eqb b sep here)
-pieces_cut sep (b ∷ bs) (suc i) inside here free =
-    let rest = pieces_cut sep bs i (omega arith) here (λ k h. free (suc k) (omega arith)) in
-    let other = ne_eqb b sep (free 0 (omega arith)) in
-    rw (other, rest)
+module _ {S F : Type 0} {steps : S → Option (Bor (List ℕ)) → S → Type 0} (p : Run steps) (g : Mut F (Bor (List ℕ) × Unit {0}) Bool) (f : F) (bs : List ℕ) where
+  -- the test of the window at k
+  at_window : ((x : Bor (List ℕ)) (b : Bool) → Called g f (x, tt) b f → b ≡ double x.now) → IsWindowsRun p 2 bs → (k : ℕ) (b : Bool) (o : Option (Bor (List ℕ))) → p.at k ≡ o → IsSomeAnd o (λ x. Called g f (x, tt) b f) → (k + 2 ≤ length bs) × (double (take 2 (drop k bs)) ≡ b)
+  at_window tests w k b None e h = absurd h
+  at_window tests w k b (Some x) e h =
+      let read = rw e at (w.2 k) in
+      (read.1, sym (ap double read.2.0) ∙ sym (tests x b h))
 
--- no double colon stands among the first n bytes
-abbrev pub Apart : List ℕ → ℕ → Type 0
-Apart bs n = (k : ℕ) → k + 1 < n → get_or bs k 0 ≡ 58 → get_or bs (suc k) 0 ≡ 58 → ⊥
+  pub first_window : (r : Option ℕ) → CallKeepsClosure g f → ((x : Bor (List ℕ)) (b : Bool) → Called g f (x, tt) b f → b ≡ double x.now) → IsWindowsRun p 2 bs
+      → MatchOption r (IsTrue p.whole × AllItemsGive p g f false) (λ i. (p.len ≡ i + 1) × IsFirstToGive p g f true false i) → FirstAt bs r
+  first_window None keeps tests w h = λ k fits. (at_window tests w k false _ refl (there (p.at k) _ (w.3 k 0 (omega (arith, w.1 h.0))) (h.1 keeps k))).1
+    where
+      there : (o : Option (Bor (List ℕ))) (a : ℕ) → option_map (λ x. get_or x.now 0 0) o ≡ Some a → IfSome o (λ x. Called g f (x, tt) false f) → IsSomeAnd o (λ x. Called g f (x, tt) false f)
+      there None a e h = cc
+      there (Some x) a e h = h
+  first_window (Some i) keeps tests w h =
+      let here = at_window tests w i true _ refl (h.1 keeps).0 in
+      (here.0, here.1, λ k less. (at_window tests w k false _ refl ((h.1 keeps).1 k less)).1)
 
-shut : (a b : ℕ) (bs : List ℕ) → (a ≡ 58 → b ≡ 58 → ⊥) → opens (a ∷ b ∷ bs) ≡ false
-shut a b bs h =
-    elim (cases_eq a 58) [
-      | inl e ↦ and_right (eqb a 58) (eqb b 58) (ne_eqb b 58 (h e))
-      | inr n ↦ and_left (eqb a 58) (eqb b 58) (ne_eqb a 58 n)
-    ]
+opens_is : (bs : List ℕ) → opens bs ≡ double (take 2 bs)
+opens_is [] = refl
+opens_is (a ∷ []) = grind arith
+opens_is (a ∷ b ∷ bs) = grind arith
 
-pub around_none : (bs : List ℕ) → Apart bs (length bs) → around bs ≡ None
+pub around_none : (bs : List ℕ) → FirstAt bs None → around bs ≡ None
 unfolding around
-around_none [] apart = refl
-around_none (a ∷ []) apart = refl
-around_none (a ∷ b ∷ bs) apart =
-    let rest = around_none (b ∷ bs) (λ k h. apart (suc k) (omega arith)) in
-    cond-false (opens (a ∷ b ∷ bs)) _ _ (shut a b bs (apart 0 (omega arith))) ∙ ap (option_map (λ sides. (a ∷ sides.0, sides.1))) rest
+around_none [] first = refl
+around_none (a ∷ []) first = refl
+around_none (a ∷ b ∷ bs) first =
+    let rest = around_none (b ∷ bs) (λ k h. first (suc k) (omega arith)) in
+    cond-false (opens (a ∷ b ∷ bs)) _ _ (opens_is (a ∷ b ∷ bs) ∙ first 0 (omega arith)) ∙ ap (option_map (λ sides. (a ∷ sides.0, sides.1))) rest
 
-around_cut : (bs : List ℕ) (i : ℕ) → suc i < length bs → get_or bs i 0 ≡ 58 → get_or bs (suc i) 0 ≡ 58 → Apart bs (suc i) → around bs ≡ Some (take i bs, drop (suc (suc i)) bs)
+pub around_cut : (bs : List ℕ) (i : ℕ) → FirstAt bs (Some i) → around bs ≡ Some (take i bs, drop (suc (suc i)) bs)
 unfolding around
-around_cut [] i inside here next apart = absurd (omega arith)
-around_cut (a ∷ []) i inside here next apart = absurd (omega arith)
-around_cut (a ∷ b ∷ bs) zero inside here next apart =
-    cond-true (opens (a ∷ b ∷ bs)) _ _ (and_from _ _ (eq-eqb a 58 here) (eq-eqb b 58 next))
-around_cut (a ∷ b ∷ bs) (suc i) inside here next apart =
-    let rest = around_cut (b ∷ bs) i (omega arith) here next (λ k h. apart (suc k) (omega arith)) in
-    cond-false (opens (a ∷ b ∷ bs)) _ _ (shut a b bs (apart 0 (omega arith))) ∙ ap (option_map (λ sides. (a ∷ sides.0, sides.1))) rest
-
-pub around_at : (bs : List ℕ) (i : ℕ) → 0 < i → i < length bs → get_or bs (i - 1) 0 ≡ 58 → get_or bs i 0 ≡ 58 → Apart bs i → around bs ≡ Some (take (i - 1) bs, drop (suc i) bs)
-around_at bs zero some inside here next apart = absurd (omega arith)
-around_at bs (suc i) some inside here next apart =
-    let e : suc i - 1 ≡ i = omega arith in
-    rw e (around_cut bs i inside (rw e at here) next apart)
-
-pub apart_more : (bs : List ℕ) (i : ℕ) → 0 < i → (get_or bs (i - 1) 0 ≡ 58 → get_or bs i 0 ≡ 58 → ⊥) → Apart bs i → Apart bs (i + 1)
-apart_more bs i some other apart k h here next =
-    elim (cases_eq (suc k) i) [
-      | inl e ↦ let f : i - 1 ≡ k = omega arith in other (rw f here) (rw (← e) next)
-      | inr n ↦ apart k (omega arith) here next
-    ]
+around_cut [] i first = absurd (omega (arith, first.0))
+around_cut (a ∷ bs) zero first = cond-true (opens (a ∷ bs)) _ _ (opens_is (a ∷ bs) ∙ first.1)
+around_cut (a ∷ bs) (suc i) first =
+    let rest = around_cut bs i (omega (arith, first.0), first.1, λ k h. first.2 (suc k) (omega arith)) in
+    cond-false (opens (a ∷ bs)) _ _ (opens_is (a ∷ bs) ∙ first.2 0 (omega arith)) ∙ ap (option_map (λ sides. (a ∷ sides.0, sides.1))) rest

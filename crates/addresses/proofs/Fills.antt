@@ -11,7 +11,7 @@ use Rattle.notes.specs.declared.block.Address.{Address}
 use Rattle.notes.specs.declared.family.Family.TheVariants.{Six}
 use Rattle.addresses.specs.declared.row.Row.{Row}
 use Rattle.addresses.specs.Addresses.{address_from, filled, joined}
-use Rattle.addresses.specs.Rows.{RowOf, empty, row_with}
+use Rattle.addresses.specs.Rows.{RowValue, empty, row_with}
 use Rattle.addresses.proofs.Rows.{counted}
 
 pub number_after_is : (b n : ℕ) (ns : List ℕ) → number_from_digits_after b n ns ≡ n * b ^ length ns + number_from_digits b ns
@@ -50,21 +50,21 @@ pow_groups (suc k) =
     ap (λ x. 2 ^ x) e ∙ pow-add 2 (16 * k) 16 ∙ ap (λ x. x * 65536) (pow_groups k) ∙ sym (pow-suc 65536 k)
 
 -- the first groups moved to their place lose nothing
-pub leading_is : (row : Row) → RowOf Six row → (row.bits * 2 ^ (16 * (8 - row.count))) % 2 ^ 128 ≡ row.bits * 65536 ^ (8 - row.count)
-leading_is row r =
-    let few : row.count ≤ 8 = r.few in
-    let small : row.bits < 2 ^ (16 * row.count) = rw pow_groups r.small in
+pub leading_is : (row : Row) → row.family ≡ Six → (row.bits * 2 ^ (16 * (8 - row.count))) % 2 ^ 128 ≡ row.bits * 65536 ^ (8 - row.count)
+leading_is row six =
+    let few : row.count ≤ 8 = rw six at row.few in
+    let small : row.bits < 2 ^ (16 * row.count) = rw pow_groups (rw six at row.small) in
     shl_whole row.bits (16 * row.count) (16 * (8 - row.count)) 128 small (omega arith)
     ∙ ap (λ x. row.bits * x) (pow_groups (8 - row.count))
 
-pub joined_fits : (first last : Row) → RowOf Six first → RowOf Six last → first.count + last.count < 8 → first.bits * 65536 ^ (8 - first.count) + last.bits < 2 ^ 128
+pub joined_fits : (first last : Row) → first.family ≡ Six → last.family ≡ Six → first.count + last.count < 8 → first.bits * 65536 ^ (8 - first.count) + last.bits < 2 ^ 128
 joined_fits first last r s few =
-    let behind : last.count ≤ 8 - first.count = omega arith in
-    let back : last.bits < 65536 ^ (8 - first.count) = lt_of_lt_of_le s.small (pow-le-pow_right (omega arith) behind) in
+    let small : first.bits < 65536 ^ first.count = rw r at first.small in
+    let back : last.bits < 65536 ^ (8 - first.count) = lt_of_lt_of_le (rw s at last.small) (pow-le-pow_right (omega arith) (omega arith)) in
     let eight : first.count + (8 - first.count) ≡ 8 = omega arith in
     let whole : 65536 ^ first.count * 65536 ^ (8 - first.count) ≡ 2 ^ 128 = sym (pow-add 65536 first.count (8 - first.count)) ∙ ap (λ x. 65536 ^ x) eight in
     let P : ℕ → Type 0 = λ x. first.bits * 65536 ^ (8 - first.count) + last.bits < x in
-    subst P whole (digits_lt r.small back)
+    subst P whole (digits_lt small back)
 
 abbrev join : ℕ → ℕ → ℕ → ℕ → Option Address
 join c b d a = cond (ltb (c + d) 8) (Some (record { family = Six; bits = b * 65536 ^ (8 - c) + a })) None
@@ -82,7 +82,7 @@ join_lists ns ms false e =
     ∙ ap (address_from Six) (sym (cond-false (ltb (length ns + length ms) 8) _ None e))
 
 -- the rows joined are the address of the groups, filled
-pub joined_is : (before after : Option (List ℕ)) (first last : Row) → Some first ≡ row_with Six empty before → Some last ≡ row_with Six empty after
+pub joined_is : (before after : Option (List ℕ)) (first last : RowValue) → Some first ≡ row_with (empty Six) before → Some last ≡ row_with (empty Six) after
     → joined first last ≡ address_from Six (filled before after)
 joined_is before after first last d e =
     let x = counted Six before first d in

@@ -6,10 +6,9 @@ use Rattle.notes.specs.declared.block.Address.{Address}
 use Rattle.notes.specs.declared.family.Family.{Family}
 use Rattle.notes.specs.declared.family.Family.TheVariants.{Four, Six}
 use Rattle.texts.specs.Pieces.{pieces}
-use Rattle.addresses.specs.declared.row.Row.{Row}
 use Rattle.addresses.specs.Forms.{size, base}
 use Rattle.addresses.specs.Gaps.{around}
-use Rattle.addresses.specs.Rows.{parts_of}
+use Rattle.addresses.specs.Rows.{parts_of, RowValue}
 
 -- the address that has these parts, if they are as many as the family has; the first part is the most significant
 abbrev pub address_from : Family → Option (List ℕ) → Option Address
@@ -35,7 +34,7 @@ filled (Some before) (Some after) =
     (Some (before ++ (replicate (8 - (length before + length after)) 0 ++ after))) None
 
 -- the address with one row of groups at its beginning, another at its end, and zero groups between them, one or more
-abbrev pub joined : Row → Row → Option Address
+abbrev pub joined : RowValue → RowValue → Option Address
 joined first last =
     cond (nat_lt (first.count + last.count) 8)
     (Some (record { family = Six; bits = first.bits * 65536 ^ (8 - first.count) + last.bits })) None

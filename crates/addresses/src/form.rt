@@ -1,4 +1,4 @@
-// How the addresses of a family are written.
+// How the addresses of a family are written. A trait with two marker types would be longer than these four tables.
 ghost use Rattle.std.specs.Prelude.{◌≡◌, ◌<◌, IfSome};
 ghost use Rattle.addresses.specs.Forms.{separator as separator_of, size as size_of, base as base_of, part_of};
 

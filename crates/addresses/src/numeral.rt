@@ -45,9 +45,5 @@ pub(crate) fn octet(piece: &[u8]) -> Option<u32>
     if piece.len() > 1 && piece[0] == b'0' {
         return None;
     }
-    let number = numeral(piece, 10, 3)?;
-    if number > 255 {
-        return None;
-    }
-    Some(number)
+    numeral(piece, 10, 3).filter(|number| *number <= 255)
 }

@@ -1,13 +1,13 @@
 // The text form of addresses.
-ghost use Rattle.std.specs.Prelude.{◌≡◌, ◌+◌, ◌-◌, ◌*◌, ◌^◌, ◌<◌, IfSome};
+ghost use Rattle.std.specs.Prelude.{◌≡◌, ◌+◌, ◌-◌, ◌*◌, ◌^◌, ◌<◌};
 ghost use Rattle.addresses.specs.Addresses.{address_from, side, filled, six_of, address_of, joined};
 ghost use Rattle.addresses.specs.Forms.{separator as separator_of};
-ghost use Rattle.addresses.specs.Rows.{parts_of, RowOf, empty, row_with};
+ghost use Rattle.addresses.specs.Rows.{parts_of, row_value, empty, row_with};
+ghost use Rattle.std.specs.Option.{option_map};
 ghost use Rattle.notes.specs.declared.family.Family.TheVariants.{Six};
 ghost use Rattle.texts.specs.Pieces.{pieces};
 
 use super::cut::split_at_gap;
-use super::form::size;
 use super::row::Row;
 use notes::{Address, Family};
 
@@ -21,10 +21,7 @@ const GROUP_BITS: usize = 16;
 pub fn address(word: &[u8]) -> Option<Address>
     ensures { result ≡ address_of word.now }
 {
-    match whole(Family::Four, word) {
-        Some(address) => Some(address),
-        None => six(word),
-    }
+    whole(Family::Four, word).or_else(|| six(word))
 }
 
 // The IPv6 address that the word writes.
@@ -41,14 +38,12 @@ fn six(word: &[u8]) -> Option<Address>
 fn whole(family: Family, word: &[u8]) -> Option<Address>
     ensures { result ≡ address_from family (parts_of family (pieces (separator_of family) word.now)) }
 {
-    let row = Row::read(family, word)?;
-    if row.count != size(family) {
-        return None;
-    }
-    Some(Address {
-        family,
-        bits: row.bits,
-    })
+    Row::read(family, word)
+        .filter(Row::is_full)
+        .map(|row| Address {
+            family,
+            bits: row.bits,
+        })
 }
 
 // The IPv6 address with these groups before and after a double colon.
@@ -62,11 +57,10 @@ fn with_gap(front: &[u8], back: &[u8]) -> Option<Address>
 
 // The groups on one side of a double colon, where nothing stands for no group.
 fn groups(text: &[u8]) -> Option<Row>
-    ensures parts { result ≡ row_with Six empty (side text.now) }
-    ensures sized { IfSome result (λ row. RowOf Six row) }
+    ensures { option_map row_value result ≡ row_with (empty Six) (side text.now) }
 {
     if text.is_empty() {
-        return Some(Row::new());
+        return Some(Row::new(Family::Six));
     }
     Row::read(Family::Six, text)
 }
@@ -74,8 +68,8 @@ fn groups(text: &[u8]) -> Option<Row>
 // The IPv6 address with the rows at its ends and zeros between them. A double colon stands for one group
 // at least, so that seven groups at most are written.
 fn fill(first: Row, last: Row) -> Option<Address>
-    requires { (RowOf Six first) × (RowOf Six last) }
-    ensures { result ≡ joined first last }
+    requires { (first.family ≡ Six) × (last.family ≡ Six) }
+    ensures { result ≡ joined (row_value first) (row_value last) }
 {
     if first.count + last.count >= GROUPS {
         return None;
@@ -88,7 +82,7 @@ fn fill(first: Row, last: Row) -> Option<Address>
 
 // The bits of eight groups that begin with one row, end with the other, and are zero between them.
 fn spread(first: Row, last: Row) -> u128
-    requires { (RowOf Six first) × ((RowOf Six last) × (first.count + last.count < 8)) }
+    requires { (first.family ≡ Six) × ((last.family ≡ Six) × (first.count + last.count < 8)) }
     ensures { result ≡ first.bits * 65536 ^ (8 - first.count) + last.bits }
 {
     if first.count == 0 {

@@ -1,5 +1,7 @@
 pub mod Bools
 pub mod PieceLaws
+pub mod Cuts
+pub mod TryFolds
 pub mod Paths
 pub mod Grammars
 pub mod Matchings

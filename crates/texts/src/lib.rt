@@ -9,6 +9,7 @@ mod grammar;
 mod identity;
 mod matching;
 mod pattern;
+mod pieces;
 mod same;
 mod segments;
 mod standing;
@@ -24,6 +25,7 @@ pub use matching::{
     domain_covers, domain_matches, matching_is_replacing, pattern_covers, pattern_matches,
 };
 pub use pattern::is_pattern;
+pub use pieces::split_once;
 pub use same::{same_decides, same_text};
 pub use standing::{Standing, StandingGrammar, is_standing};
 pub use text::Text;

@@ -1,21 +1,24 @@
-use Rattle.std.proofs.Common.{◌≡◌, ◌-◌, add-one, arith}
+use Rattle.std.proofs.Common.{◌≡◌, suc, ◌+◌, rules, arith}
+use borrow.Author.Tests.{tests}
 use Rattle.std.proofs.lemmas.List.{take_rest}
-use Rattle.std.proofs.lemmas.Bool.{eq-eqb, eqb-true, and_parts, and_from, both_ways}
-use Rattle.addresses.proofs.Cuts.{around_at, around_none, apart_more}
+use Rattle.addresses.proofs.Cuts.{first_window, around_none, around_cut}
 use Rattle.addresses.proofs.cut.split_at_gap.Goals as goal
 
-pub returns-then-text-i : goal.returns-then-text-i
-returns-then-text-i c =
-    let whole : (c.loop-i.i - 1) - 0 ≡ c.loop-i.i - 1 = omega arith in
-    let both = and_parts _ _ c.if-text-i.true in
-    rw (whole, take_rest, add-one)
-    (around_at _ _ c.loop-i.auto.i c.loop-i-test.true (eqb-true _ _ both.0) (eqb-true _ _ both.1) c.loop-i.invariant)
-
-pub loop-i-preserved : goal.loop-i-preserved
-loop-i-preserved c =
-    apart_more _ _ (omega arith)
-    (λ here next. both_ways _ c.if-text-i.false (and_from _ _ (eq-eqb _ _ here) (eq-eqb _ _ next)))
-    c.loop-i.invariant
+pub returns-in_err-i : goal.returns-in_err-i
+returns-in_err-i c =
+    let p = c.position.ensures.runs in
+    let size : p.0.from.size ≡ 2 = search rules in
+    let rest : p.0.from.rest.now ≡ c.args.text.now = search rules in
+    let windows = rw (size, rest) at (c.windows.ensures.runs p.0 p.0.seen (omega (arith, size))) in
+    let first = first_window p.0 _ _ c.args.text.now c.position.result (λ a r f k. search rules) (λ x b q. search (rules, tests)) windows p.2 in
+    rw c.from_residual.ensures (around_none _ (rw (c.in_err-i.was) at first))
 
 pub returns : goal.returns
-returns c = around_none _ (λ k h. c.loop-i.invariant k (omega arith))
+returns c =
+    let p = c.position.ensures.runs in
+    let size : p.0.from.size ≡ 2 = search rules in
+    let rest : p.0.from.rest.now ≡ c.args.text.now = search rules in
+    let windows = rw (size, rest) at (c.windows.ensures.runs p.0 p.0.seen (omega (arith, size))) in
+    let first = first_window p.0 _ _ c.args.text.now c.position.result (λ a r f k. search rules) (λ x b q. search (rules, tests)) windows p.2 in
+    let two : c.in_ok-i.i + 2 ≡ suc (suc c.in_ok-i.i) = omega arith in
+    rw (take_rest, two) (around_cut _ _ (rw (c.in_ok-i.was) at first))
