@@ -1,6 +1,6 @@
 -- Requests. Assumes nothing.
 use Rattle.std.specs.Prelude.{ℕ, Bool, List, Option}
-use Rattle.texts.specs.TextValues.{identity_text}
+use Rattle.texts.specs.TextValues.{text_of}
 use Rattle.notes.specs.Constraints.{offered}
 use Rattle.notes.specs.declared.block.Address.{Address}
 use Rattle.notes.specs.declared.country.Country.{Country}
@@ -19,7 +19,7 @@ pub record RequestValue : Type 0 where
 
 abbrev pub request_of : CheckedRequest → RequestValue
 request_of q = record {
-  identity = identity_text q.identity;
+  identity = text_of q.identity;
   authenticated = q.authenticated;
   operation = q.operation;
   child_type_of = offered q.has_child_type q.child_type;

@@ -1,7 +1,7 @@
 // Which requests a rule admits.
 ghost use Rattle.std.specs.Prelude.{◌≡◌};
 ghost use Rattle.texts.specs.Lists.{some};
-ghost use Rattle.texts.specs.TextValues.{domain_text, identity_text};
+ghost use Rattle.texts.specs.TextValues.{text_of};
 ghost use Rattle.notes.specs.Constraints.{offered};
 ghost use Rattle.notes.specs.Few.{listed};
 ghost use Rattle.notes.specs.Originators.{originator_of};
@@ -23,7 +23,7 @@ fn entry_matches<L: MemberList>(
     identity: &Identity,
     members: &L,
 ) -> bool
-    ensures { result ≡ originator_matches (domain_text home.now) (L.pairs members.now) (identity_text identity.now) (originator_of note.now «entry».now) }
+    ensures { result ≡ originator_matches (text_of home.now) (L.pairs members.now) (text_of identity.now) (originator_of note.now «entry».now) }
 {
     let text = entry.text(note);
     match entry.kind() {
@@ -42,7 +42,7 @@ fn one_matches<L: MemberList>(
     identity: &Identity,
     members: &L,
 ) -> bool
-    ensures { result ≡ some (λ o. originator_matches (domain_text home.now) (L.pairs members.now) (identity_text identity.now) (originator_of note.now o)) entries.now }
+    ensures { result ≡ some (λ o. originator_matches (text_of home.now) (L.pairs members.now) (text_of identity.now) (originator_of note.now o)) entries.now }
 {
     for entry in entries {
         if entry_matches(entry, note, home, identity, members) {
@@ -90,7 +90,7 @@ impl RuleView<'_> {
 
     // Whether an originator entry matches the request's identity.
     fn is_from<L: MemberList>(&self, home: &Domain, request: &CheckedRequest, members: &L) -> bool
-        ensures { result ≡ some (originator_matches (domain_text home.now) (L.pairs members.now) (identity_text request.now.identity)) (rule_in self.now).originators }
+        ensures { result ≡ some (originator_matches (text_of home.now) (L.pairs members.now) (text_of request.now.identity)) (rule_in self.now).originators }
     {
         one_matches(
             self.parts.originators(),
@@ -108,7 +108,7 @@ impl RuleView<'_> {
         request: &CheckedRequest,
         members: &L,
     ) -> bool
-        ensures { result ≡ rule_admits (domain_text home.now) (L.pairs members.now) (rule_in self.now) (request_of request.now) }
+        ensures { result ≡ rule_admits (text_of home.now) (L.pairs members.now) (rule_in self.now) (request_of request.now) }
     {
         if !self.is_for(request) {
             return false;

@@ -1,7 +1,7 @@
 // Which rules a rule covers.
 ghost use Rattle.std.specs.Prelude.{◌≡◌};
 ghost use Rattle.texts.specs.Lists.{some, each};
-ghost use Rattle.texts.specs.TextValues.{domain_text};
+ghost use Rattle.texts.specs.TextValues.{text_of};
 ghost use Rattle.notes.specs.Originators.{originator_of};
 ghost use Rattle.admission.specs.Covering.{originator_covers, originators_cover, lists_cover, rule_covers};
 ghost use Rattle.admission.specs.Laws.{RulesSound};
@@ -19,7 +19,7 @@ fn entry_covers(
     other: &Originator,
     other_note: &[u8],
 ) -> bool
-    ensures { result ≡ originator_covers (domain_text home.now) (originator_of note.now «entry».now) (originator_of other_note.now other.now) }
+    ensures { result ≡ originator_covers (text_of home.now) (originator_of note.now «entry».now) (originator_of other_note.now other.now) }
 {
     let text = entry.text(note);
     let other_text = other.text(other_note);
@@ -41,7 +41,7 @@ fn one_covers(
     other: &Originator,
     other_note: &[u8],
 ) -> bool
-    ensures { result ≡ some (λ o. originator_covers (domain_text home.now) (originator_of note.now o) (originator_of other_note.now other.now)) entries.now }
+    ensures { result ≡ some (λ o. originator_covers (text_of home.now) (originator_of note.now o) (originator_of other_note.now other.now)) entries.now }
 {
     for entry in entries {
         if entry_covers(home, entry, note, other, other_note) {
@@ -59,7 +59,7 @@ fn each_covered(
     others: &[Originator],
     other_note: &[u8],
 ) -> bool
-    ensures { result ≡ each (λ p. some (λ o. originator_covers (domain_text home.now) (originator_of note.now o) (originator_of other_note.now p)) entries.now) others.now }
+    ensures { result ≡ each (λ p. some (λ o. originator_covers (text_of home.now) (originator_of note.now o) (originator_of other_note.now p)) entries.now) others.now }
 {
     for other in others {
         if !one_covers(home, entries, note, other, other_note) {
@@ -72,7 +72,7 @@ fn each_covered(
 impl RuleView<'_> {
     // Whether the rule covers the other, at this home domain. What covers another admits at least as much.
     pub fn covers(&self, home: &Domain, other: &RuleView<'_>) -> bool
-        ensures answer { result ≡ rule_covers (domain_text home.now) (rule_in self.now) (rule_in other.now) }
+        ensures answer { result ≡ rule_covers (text_of home.now) (rule_in self.now) (rule_in other.now) }
         ensures law { RulesSound }
     {
         self.parts.side().same(other.parts.side())
@@ -83,7 +83,7 @@ impl RuleView<'_> {
 
     // Whether each originator entry of the other rule is covered.
     fn originators_cover(&self, home: &Domain, other: &RuleView<'_>) -> bool
-        ensures { result ≡ originators_cover (domain_text home.now) (rule_in self.now).originators (rule_in other.now).originators }
+        ensures { result ≡ originators_cover (text_of home.now) (rule_in self.now).originators (rule_in other.now).originators }
     {
         each_covered(
             home,

@@ -1,10 +1,9 @@
 -- Rows that hold texts. Assumes nothing.
-use Rattle.std.proofs.Common.{◌≡◌, ℕ, ◌-◌, ◌≤◌, true, ◌&&◌, leb, List, length, take, replicate, sym, refl, arith, length-take}
+use Rattle.std.proofs.Common.{◌≡◌, ℕ, ◌-◌, ◌≤◌, true, ◌&&◌, leb, List, length, take, replicate, sym, refl, leb-true}
 use Rattle.std.proofs.lemmas.List.{take_at}
 use Rattle.std.proofs.lemmas.Bool.{le-leb, and_parts}
-use Rattle.texts.specs.TextValues.{identity_text, standing_text}
-use Rattle.texts.specs.declared.identity.Identity.{Identity}
-use Rattle.texts.specs.declared.standing.Standing.{Standing}
+use Rattle.texts.specs.TextValues.{text_of}
+use Rattle.texts.specs.declared.text.Text.{Text}
 use Rattle.texts.specs.Same.{same}
 use Rattle.members.specs.Rows.{row_text_of, row_text_is, row_of, row_is}
 use Rattle.members.specs.declared.row_text.RowText.{RowText}
@@ -24,9 +23,6 @@ row_text_only i j x e =
     let parts = and_parts (leb x.len 40) (same i (take x.len x.bytes)) e in
     λ k. parts.0 k && same j (sym ((same_is i (take x.len x.bytes)).0 parts.1) k)
 
--- identities and standings fit into a row
-pub identity_short : (x : Identity) → length (identity_text x) ≤ 40
-identity_short x = omega (arith, length-take x.len x.bytes, x.short)
-
-pub standing_short : (x : Standing) → length (standing_text x) ≤ 40
-standing_short x = omega (arith, length-take x.len x.bytes, x.short)
+-- a text of at most 40 bytes fits into a row
+pub text_short : {G : Type 0} {g : _} (x : Text G 40 g) → length (text_of x) ≤ 40
+text_short x = leb-true _ 40 (and_parts (leb (length (text_of x)) 40) _ x.lawful).0

@@ -1,6 +1,5 @@
 pub mod Pairs
 pub mod Rows
-pub mod PresentedRows
 pub mod Tokens
 pub mod Leavers
 pub mod Orders

@@ -1,27 +1,21 @@
 // The flat roll: a table of rows, each an identity and a standing, that is lent for reading.
 ghost use Rattle.std.specs.Prelude.{◌≡◌};
-ghost use Rattle.texts.specs.TextValues.{identity_text, standing_text};
+ghost use Rattle.texts.specs.TextValues.{text_of};
 ghost use Rattle.members.specs.Rows.{row_of, row_is, listed};
 
 use super::member_list::MemberList;
 use super::row_text::RowText;
 use texts::{Identity, Standing};
 
-#[derive(Clone, Copy)]
+#[derive(Clone, Copy, Default)]
 pub struct MemberRow {
     pub identity: RowText,
     pub standing: RowText,
 }
 
 impl MemberRow {
-    // Stands where a table of fixed size holds no pair yet.
-    pub(super) const EMPTY: MemberRow = MemberRow {
-        identity: RowText::EMPTY,
-        standing: RowText::EMPTY,
-    };
-
     pub fn new(identity: &Identity, standing: &Standing) -> MemberRow
-        ensures { result ≡ row_of (identity_text identity.now) (standing_text standing.now) }
+        ensures { result ≡ row_of (text_of identity.now) (text_of standing.now) }
     {
         MemberRow {
             identity: RowText::holding(identity.as_bytes()),

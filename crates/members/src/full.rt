@@ -3,10 +3,17 @@ ghost use Rattle.std.specs.Prelude.{◌≡◌};
 ghost use Rattle.bits.specs.declared.fault.Layer.TheVariants.{Register};
 
 use bits::{Layer, Report};
+use texts::Full;
 
 // A token layer or a leavers layer is full: refusal 21 of the register's layer.
 #[derive(Clone, Copy, Debug, PartialEq, Eq)]
 pub struct LayerFull;
+
+impl From<Full> for LayerFull {
+    fn from(_: Full) -> LayerFull {
+        LayerFull
+    }
+}
 
 impl LayerFull {
     pub fn report(self) -> Report

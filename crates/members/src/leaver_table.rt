@@ -1,6 +1,6 @@
 // The table of a leavers layer: sixteen entries, each free or with a noted identity.
 ghost use Rattle.std.specs.Prelude.{◌≡◌, ◌<◌, not, replicate, position, slice_set};
-ghost use Rattle.texts.specs.TextValues.{identity_text};
+ghost use Rattle.texts.specs.TextValues.{text_of};
 ghost use Rattle.members.specs.Leavers.{no_leaver, leaver_of, taken, is_leaver, noted};
 
 use super::row_text::RowText;
@@ -29,7 +29,7 @@ impl Leaver {
     }
 
     fn enter(&mut self, identity: &Identity)
-        ensures { self.new ≡ leaver_of (identity_text identity.now) }
+        ensures { self.new ≡ leaver_of (text_of identity.now) }
     {
         self.identity = Some(RowText::holding(identity.as_bytes()));
     }
@@ -56,14 +56,14 @@ impl LeaverTable {
     }
 
     pub(super) fn has(&self, identity: &Identity) -> bool
-        ensures { result ≡ noted self.now.entries (identity_text identity.now) }
+        ensures { result ≡ noted self.now.entries (text_of identity.now) }
     {
         let text = identity.as_bytes();
         self.entries.iter().any(|entry| entry.is(text))
     }
 
     pub(super) fn find(&self, identity: &Identity) -> Option<usize>
-        ensures { result ≡ position (is_leaver (identity_text identity.now)) self.now.entries }
+        ensures { result ≡ position (is_leaver (text_of identity.now)) self.now.entries }
     {
         let text = identity.as_bytes();
         self.entries.iter().position(|entry| entry.is(text))
@@ -77,7 +77,7 @@ impl LeaverTable {
 
     pub(super) fn enter(&mut self, k: usize, identity: &Identity)
         requires { k < 16 }
-        ensures { self.new.entries ≡ slice_set self.old.entries k (leaver_of (identity_text identity.now)) }
+        ensures { self.new.entries ≡ slice_set self.old.entries k (leaver_of (text_of identity.now)) }
     {
         self.entries[k].enter(identity);
     }

@@ -1,6 +1,6 @@
 // The leavers layer: the list below without the pairs of noted identities.
 ghost use Rattle.std.specs.Prelude.{◌≡◌, replicate};
-ghost use Rattle.texts.specs.TextValues.{identity_text};
+ghost use Rattle.texts.specs.TextValues.{text_of};
 ghost use Rattle.members.specs.Leavers.{no_leaver, without_noted, OnceEach, Noted, Readmitted, Lost, Regained};
 ghost use Rattle.members.specs.Pairs.{Alike};
 
@@ -46,8 +46,8 @@ impl<L: MemberList> LeaversLayer<L> {
     // An identity that is noted already is accepted without effect, also where the layer is full.
     pub fn note(&mut self, identity: &Identity) -> Result<(), LayerFull>
         ensures below { self.new.below ≡ self.old.below }
-        ensures noted { Noted (identity_text identity.now) self.old.table.entries result self.new.table.entries }
-        ensures meaning { Lost (identity_text identity.now) (without_noted self.old.table.entries (L.MemberList.pairs self.old.below)) result (without_noted self.new.table.entries (L.MemberList.pairs self.new.below)) }
+        ensures noted { Noted (text_of identity.now) self.old.table.entries result self.new.table.entries }
+        ensures meaning { Lost (text_of identity.now) (without_noted self.old.table.entries (L.MemberList.pairs self.old.below)) result (without_noted self.new.table.entries (L.MemberList.pairs self.new.below)) }
     {
         if self.table.has(identity) {
             return Ok(());
@@ -60,8 +60,8 @@ impl<L: MemberList> LeaversLayer<L> {
     // An identity that is not noted is accepted without effect.
     pub fn readmit(&mut self, identity: &Identity)
         ensures below { self.new.below ≡ self.old.below }
-        ensures noted { Readmitted (identity_text identity.now) self.old.table.entries self.new.table.entries }
-        ensures meaning { Regained (identity_text identity.now) (L.MemberList.pairs self.old.below) (without_noted self.old.table.entries (L.MemberList.pairs self.old.below)) (without_noted self.new.table.entries (L.MemberList.pairs self.new.below)) }
+        ensures noted { Readmitted (text_of identity.now) self.old.table.entries self.new.table.entries }
+        ensures meaning { Regained (text_of identity.now) (L.MemberList.pairs self.old.below) (without_noted self.old.table.entries (L.MemberList.pairs self.old.below)) (without_noted self.new.table.entries (L.MemberList.pairs self.new.below)) }
     {
         if let Some(k) = self.table.find(identity) {
             self.table.clear(k);

@@ -7,7 +7,6 @@ mod leaver_table;
 mod leavers;
 mod member_list;
 mod piles;
-mod presented;
 mod row_text;
 mod tokens;
 

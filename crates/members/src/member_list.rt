@@ -1,6 +1,6 @@
 // What every member list promises.
 ghost use Rattle.std.specs.Prelude.{◌≡◌, ℕ, Bool, List};
-ghost use Rattle.texts.specs.TextValues.{identity_text};
+ghost use Rattle.texts.specs.TextValues.{text_of};
 
 use texts::Identity;
 
@@ -10,5 +10,5 @@ pub trait MemberList {
 
     // The standing is a slice, since a rule holds it as a part of its note.
     fn has(&self, identity: &Identity, standing: &[u8]) -> bool
-        ensures { result ≡ pairs self.now (identity_text identity.now) standing.now };
+        ensures { result ≡ pairs self.now (text_of identity.now) standing.now };
 }

@@ -1,6 +1,6 @@
 // Layers lie on each other in any order.
 ghost use Rattle.std.specs.Prelude.{◌≡◌, MatchResult};
-ghost use Rattle.texts.specs.TextValues.{identity_text, standing_text};
+ghost use Rattle.texts.specs.TextValues.{text_of};
 ghost use Rattle.members.specs.Orders.{LayersKeepOrder};
 ghost use Rattle.members.specs.Pairs.{with_pair, without_identity};
 ghost use Rattle.members.specs.Rows.{listed};
@@ -13,7 +13,7 @@ use super::tokens::TokenLayer;
 use texts::{Identity, Standing};
 
 fn ask<L: MemberList>(members: &L, identity: &Identity, standing: &[u8]) -> bool
-    ensures { result ≡ L.pairs members.now (identity_text identity.now) standing.now }
+    ensures { result ≡ L.pairs members.now (text_of identity.now) standing.now }
 {
     members.has(identity, standing)
 }
@@ -26,7 +26,7 @@ pub fn leavers_over_tokens(
     asked: &Identity,
     wanted: &[u8],
 ) -> Result<bool, LayerFull>
-    ensures { MatchResult result (λ b. b ≡ without_identity (identity_text identity.now) (with_pair (identity_text identity.now) (standing_text standing.now) (listed rows.now)) (identity_text asked.now) wanted.now) (λ _. ⊥) }
+    ensures { MatchResult result (λ b. b ≡ without_identity (text_of identity.now) (with_pair (text_of identity.now) (text_of standing.now) (listed rows.now)) (text_of asked.now) wanted.now) (λ _. ⊥) }
 {
     let mut tokens = TokenLayer::new(FlatRoll::new(rows));
     tokens.present(identity, standing)?;
@@ -43,7 +43,7 @@ pub fn tokens_over_leavers(
     asked: &Identity,
     wanted: &[u8],
 ) -> Result<bool, LayerFull>
-    ensures { MatchResult result (λ b. b ≡ with_pair (identity_text identity.now) (standing_text standing.now) (without_identity (identity_text identity.now) (listed rows.now)) (identity_text asked.now) wanted.now) (λ _. ⊥) }
+    ensures { MatchResult result (λ b. b ≡ with_pair (text_of identity.now) (text_of standing.now) (without_identity (text_of identity.now) (listed rows.now)) (text_of asked.now) wanted.now) (λ _. ⊥) }
 {
     let mut leavers = LeaversLayer::new(FlatRoll::new(rows));
     leavers.note(identity)?;

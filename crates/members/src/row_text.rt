@@ -7,19 +7,13 @@ use texts::same_text;
 const MAX_LEN: usize = 40;
 
 // The text is the first `len` bytes. A row with a length above 40 counts for nothing.
-#[derive(Clone, Copy)]
+#[derive(Clone, Copy, Default)]
 pub struct RowText {
     pub bytes: [u8; MAX_LEN],
     pub len: usize,
 }
 
 impl RowText {
-    // No byte.
-    pub(super) const EMPTY: RowText = RowText {
-        bytes: [0; MAX_LEN],
-        len: 0,
-    };
-
     pub(super) fn holding(text: &[u8]) -> RowText
         requires { length text.now ≤ 40 }
         ensures { result ≡ row_text_of text.now }

@@ -1,7 +1,7 @@
 -- Requests to the register. Assumes nothing.
 use Rattle.std.specs.Prelude.{ℕ, min, Bool, cond, ◌&&◌, List, Some, None, Option, ◌==◌, nat_le, nat_lt}
 use Rattle.calendar.specs.Civil.{last_second}
-use Rattle.texts.specs.TextValues.{identity_text}
+use Rattle.texts.specs.TextValues.{text_of}
 use Rattle.members.specs.Pairs.{Pairs}
 use Rattle.notes.specs.Countries.{country_lawful}
 use Rattle.notes.specs.Rules.{same_side}
@@ -18,7 +18,7 @@ use Rattle.register.specs.Faults.{Refusal, plainly}
 -- what a request says to a rule
 abbrev pub request_value : Request → RequestValue
 request_value q = record {
-  identity = identity_text q.identity;
+  identity = text_of q.identity;
   authenticated = q.authenticated;
   operation = q.operation;
   child_type_of = q.child_type;

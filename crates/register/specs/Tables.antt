@@ -1,6 +1,6 @@
 -- A register by its tables, and what each call does to them. Assumes nothing.
 use Rattle.std.specs.Prelude.{◌≡◌, ℕ, ◌<◌, Bool, true, false, ◌&&◌, List, ◌++◌, map, length, get_or, take, drop, Some, Ok, vec_items, count_by, nat_lt, slice_index_or, slice_set}
-use Rattle.texts.specs.TextValues.{domain_text}
+use Rattle.texts.specs.TextValues.{text_of}
 use Rattle.notes.specs.Notes.{plain_note}
 use Rattle.notes.specs.Rules.{note_reads, rule_lawful}
 use Rattle.register.specs.declared.register.Register.{Register}
@@ -18,7 +18,7 @@ pub record Tables : Type 0 where
   pub targets : List TargetRow
 
 abbrev pub tables : Register → Tables
-tables r = record { home = domain_text r.home; rows = vec_items r.rows; targets = vec_items r.targets }
+tables r = record { home = text_of r.home; rows = vec_items r.rows; targets = vec_items r.targets }
 
 abbrev pub used_rows : Tables → List RuleRow
 used_rows t = take 256 t.rows

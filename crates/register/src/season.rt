@@ -1,6 +1,6 @@
 // A short season, played by real calls.
 ghost use Rattle.std.specs.Prelude.{[], ◌∷◌, vec_len};
-ghost use Rattle.texts.specs.TextValues.{domain_text};
+ghost use Rattle.texts.specs.TextValues.{text_of};
 ghost use Rattle.register.specs.Answers.{add, withdraw, link, judge, decided};
 ghost use Rattle.register.specs.Book.{book_count};
 ghost use Rattle.register.specs.Season.{Numbered};
@@ -26,8 +26,8 @@ pub fn short_season<L: MemberList>(
     request: &Request,
     members: &L,
 ) -> (Answered, Answered)
-    ensures first { Numbered (decided result.0) (book_count (record { home = domain_text home; rows = vec_len rows; targets = vec_len targets }) (link 3 1 ∷ (add 1 9 note.now ∷ [])) request.now (L.pairs members.now)) }
-    ensures second { Numbered (decided result.1) (book_count (record { home = domain_text home; rows = vec_len rows; targets = vec_len targets }) (withdraw 1 9 ∷ (judge request.now (L.pairs members.now) ∷ (link 3 1 ∷ (add 1 9 note.now ∷ [])))) request.now (L.pairs members.now)) }
+    ensures first { Numbered (decided result.0) (book_count (record { home = text_of home; rows = vec_len rows; targets = vec_len targets }) (link 3 1 ∷ (add 1 9 note.now ∷ [])) request.now (L.pairs members.now)) }
+    ensures second { Numbered (decided result.1) (book_count (record { home = text_of home; rows = vec_len rows; targets = vec_len targets }) (withdraw 1 9 ∷ (judge request.now (L.pairs members.now) ∷ (link 3 1 ∷ (add 1 9 note.now ∷ [])))) request.now (L.pairs members.now)) }
 {
     let mut register = Register::open(home, rows, targets);
     let _added = register.add(1, 9, note);

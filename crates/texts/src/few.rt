@@ -69,7 +69,7 @@ impl<T: Copy, const N: usize> Few<T, N> {
     }
 
     pub fn push(&mut self, x: T) -> Result<(), Full>
-        ensures { MatchResult result (λ _. (length (listed self.old) < N) × (listed self.new ≡ listed self.old ++ (x ∷ []))) (λ _. (N ≤ length (listed self.old)) × (self.new ≡ self.old)) }
+        ensures { MatchResult result (λ _. (length (listed self.old) < N) × (listed self.new ≡ listed self.old ++ (x ∷ []))) (λ _. (length (listed self.old) ≡ N) × (self.new ≡ self.old)) }
     {
         let len = self.len();
         if len == N {

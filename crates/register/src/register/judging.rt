@@ -1,6 +1,6 @@
 // Judging requests.
 ghost use Rattle.std.specs.Prelude.{◌≡◌, ◌&&◌, List, ◌∷◌, length, Some, None, vec_len, MatchResult};
-ghost use Rattle.texts.specs.TextValues.{domain_text};
+ghost use Rattle.texts.specs.TextValues.{text_of};
 ghost use Rattle.admission.specs.Requests.{request_of};
 ghost use Rattle.register.specs.Answers.{Opening, judge as judge_call, Decision, verdict_given, decided};
 ghost use Rattle.register.specs.Entries.{entry_of};
@@ -66,7 +66,7 @@ impl Register {
         request: &CheckedRequest,
         members: &L,
     ) -> bool
-        ensures { result ≡ passes (domain_text self.now.home) (is_linked (tables self.now)) target (L.pairs members.now) (request_of request.now) (entry_of rule.now) }
+        ensures { result ≡ passes (text_of self.now.home) (is_linked (tables self.now)) target (L.pairs members.now) (request_of request.now) (entry_of rule.now) }
     {
         self.is_eligible(rule, target) && rule.view().admits(&self.home, request, members)
     }
@@ -78,7 +78,7 @@ impl Register {
         request: &CheckedRequest,
         members: &L,
     ) -> Verdict
-        ensures { Decision (holdings (tables self.now)).count (passes (domain_text self.now.home) (is_linked (tables self.now)) target (L.pairs members.now) (request_of request.now)) (verdict_given result) }
+        ensures { Decision (holdings (tables self.now)).count (passes (text_of self.now.home) (is_linked (tables self.now)) target (L.pairs members.now) (request_of request.now)) (verdict_given result) }
     {
         let mut verdict = Verdict::Deny;
         for row in self.used_rows() {

@@ -1,6 +1,6 @@
 // Opening a register.
 ghost use Rattle.std.specs.Prelude.{◌≡◌, map, vec_len};
-ghost use Rattle.texts.specs.TextValues.{domain_text};
+ghost use Rattle.texts.specs.TextValues.{text_of};
 ghost use Rattle.register.specs.Entries.{freed};
 ghost use Rattle.register.specs.Tables.{tables, opening, Cleared, Opened};
 ghost use Rattle.register.specs.Targets.{unlinked as no_links};
@@ -29,7 +29,7 @@ impl Register {
     // A register at this home, over these tables, whose used part is cleared.
     pub fn open(home: Domain, mut rows: Vec<RuleRow>, mut targets: Vec<TargetRow>) -> Register
         ensures cleared { Cleared rows.items targets.items (tables result) }
-        ensures opened { Opened (record { home = domain_text home; rows = vec_len rows; targets = vec_len targets }) (tables result) }
+        ensures opened { Opened (record { home = text_of home; rows = vec_len rows; targets = vec_len targets }) (tables result) }
     {
         let n = rows.len().min(USED_ROWS);
         free_rows(&mut rows[0..n]);

@@ -1,5 +1,5 @@
 use Rattle.std.proofs.Common.{List, [], ◌∷◌, vec_len}
-use Rattle.texts.specs.TextValues.{domain_text}
+use Rattle.texts.specs.TextValues.{text_of}
 use Rattle.register.specs.Answers.{Opening, add, withdraw, link, judge, done, decided}
 use Rattle.register.specs.Season.{Met, Through}
 use Rattle.register.specs.Tables.{tables}
@@ -8,7 +8,7 @@ use Rattle.register.proofs.season.short_season.Goals as goal
 -- the season is made of what the calls ensure
 pub returns : goal.returns
 returns g c =
-    let o : Opening = record { home = domain_text c.args.home; rows = vec_len c.args.rows; targets = vec_len c.args.targets } in
+    let o : Opening = record { home = text_of c.args.home; rows = vec_len c.args.rows; targets = vec_len c.args.targets } in
     let q = c.args.request.now in
     let pairs = g.L.MemberList.pairs c.args.members.now in
     let two : List Met =

@@ -1,7 +1,7 @@
 use Rattle.std.proofs.Common.{sym, refl, ap, ◌∙◌, subst}
 use Rattle.std.proofs.lemmas.List.Quantifiers.{position-Some}
 use Rattle.std.proofs.lemmas.List.Folds.{list_any_at}
-use Rattle.texts.specs.TextValues.{identity_text}
+use Rattle.texts.specs.TextValues.{text_of}
 use Rattle.members.specs.Leavers.{no_leaver, is_leaver, OnceEach, without_noted}
 use Rattle.members.proofs.Counts.{no_place}
 use Rattle.members.proofs.Noting.{once_cleared, regained_cleared, regained_known}
@@ -17,7 +17,7 @@ pub returns-in-Some : goal.returns-in-Some
 returns-in-Some g c =
     let self = c.args.self.now in
     let below = g.L.MemberList.pairs self.below in
-    let i = identity_text c.args.identity.now in
+    let i = text_of c.args.identity.now in
     let found = position-Some _ self.table.entries _ no_leaver (sym c.in-Some.ensures) in
     let there = list_any_at (is_leaver i) self.table.entries _ no_leaver found.0 found.1 in
     record {
@@ -29,9 +29,9 @@ returns-in-Some g c =
 pub returns-in_default : goal.returns-in_default
 returns-in_default g c =
     let self = c.args.self.now in
-    let away = no_place (is_leaver (identity_text c.args.identity.now)) self.table.entries (sym c.find.ensures ∙ c.in_default.is) in
+    let away = no_place (is_leaver (text_of c.args.identity.now)) self.table.entries (sym c.find.ensures ∙ c.in_default.is) in
     record {
       below = refl;
       noted = rw away refl;
-      meaning = regained_known self.table.entries (g.L.MemberList.pairs self.below) (identity_text c.args.identity.now) away;
+      meaning = regained_known self.table.entries (g.L.MemberList.pairs self.below) (text_of c.args.identity.now) away;
     }

@@ -1,6 +1,6 @@
 use Rattle.std.proofs.Common.{◌-◌, ◌++◌, drop, length, vec_items, vec_len, sym, refl, subst, arith}
 use Rattle.std.specs.Vec.{with_items}
-use Rattle.texts.specs.TextValues.{domain_text}
+use Rattle.texts.specs.TextValues.{text_of}
 use Rattle.register.specs.Entries.{freed}
 use Rattle.register.specs.Tables.{Tables, Cleared, Opened}
 use Rattle.register.specs.Targets.{unlinked}
@@ -11,7 +11,7 @@ pub returns : goal.returns
 returns c =
     let rows = c.args.rows in
     let targets = c.args.targets in
-    let home = domain_text c.args.home in
+    let home = text_of c.args.home in
     let r : Tables = record {
       home = home;
       rows = vec_items (with_items rows (c.free_rows.new.rows ++ drop (c.min-n.result - 0) c.deref_mut.result.now));

@@ -1,6 +1,6 @@
 use Rattle.std.proofs.Common.{◌+◌, ◌≤◌, length, take, None, vec_items, sym, refl, ap, ◌∙◌, subst, arith, length-take}
 use Rattle.std.proofs.lemmas.List.{take_all}
-use Rattle.texts.specs.TextValues.{domain_text}
+use Rattle.texts.specs.TextValues.{text_of}
 use Rattle.admission.specs.Requests.{request_of}
 use Rattle.register.specs.Answers.{Decision, verdict_given}
 use Rattle.register.specs.Requests.{passes}
@@ -22,11 +22,11 @@ with-verdict-requires g c =
     let xs = c.used_rows-row-items.result.now in
     let few : length xs ≤ 256 = omega (arith, ap length c.used_rows-row-items.ensures, length-take 256 (vec_items c.args.self.now.rows)) in
     let front : length (take c.loop-row.row-index xs) ≤ 256 = omega (arith, length-take c.loop-row.row-index xs) in
-    omega (arith, verdict_few (passes (domain_text c.args.self.now.home) (is_linked (tables c.args.self.now)) c.args.target (g.L.MemberList.pairs c.args.members.now) (request_of c.args.request.now)) (take c.loop-row.row-index xs) c.loop-row.verdict front c.loop-row.invariant.1)
+    omega (arith, verdict_few (passes (text_of c.args.self.now.home) (is_linked (tables c.args.self.now)) c.args.target (g.L.MemberList.pairs c.args.members.now) (request_of c.args.request.now)) (take c.loop-row.row-index xs) c.loop-row.verdict front c.loop-row.invariant.1)
 
 pub loop-row-preserved : goal.loop-row-preserved
 loop-row-preserved g c =
-    let f = passes (domain_text c.args.self.now.home) (is_linked (tables c.args.self.now)) c.args.target (g.L.MemberList.pairs c.args.members.now) (request_of c.args.request.now) in
+    let f = passes (text_of c.args.self.now.home) (is_linked (tables c.args.self.now)) c.args.target (g.L.MemberList.pairs c.args.members.now) (request_of c.args.request.now) in
     let xs = c.used_rows-row-items.result.now in
     let i = c.loop-row.row-index in
     let v = c.loop-row.verdict in
@@ -45,5 +45,5 @@ loop-row-preserved g c =
 
 pub returns : goal.returns
 returns g c =
-    subst (λ l. Decision (among l) (passes (domain_text c.args.self.now.home) (is_linked (tables c.args.self.now)) c.args.target (g.L.MemberList.pairs c.args.members.now) (request_of c.args.request.now)) (verdict_given c.loop-row.verdict))
+    subst (λ l. Decision (among l) (passes (text_of c.args.self.now.home) (is_linked (tables c.args.self.now)) c.args.target (g.L.MemberList.pairs c.args.members.now) (request_of c.args.request.now)) (verdict_given c.loop-row.verdict))
     (take_all _ _ c.loop-row-test.false ∙ c.used_rows-row-items.ensures) c.loop-row.invariant.1
