@@ -14,9 +14,9 @@ use Rattle.admission.specs.Misreadings.{DayAndWeekday, OneContext}
 pub day_and_weekday : DayAndWeekday
 day_and_weekday w t a =
     let date = both_true (clock_admits w.clock t) _ a in
-    let days = both_true (member 31 w.date.days (t.day - 1)) _ date.1 in
-    let months = both_true (member 12 w.date.months (t.month - 1)) _ days.1 in
-    (days.0, (both_true (member 7 w.date.weekdays t.weekday) (member 100 w.date.years (t.year - 2000)) months.1).0)
+    let days = both_true (member 31 w.date.days.bits (t.day - 1)) _ date.1 in
+    let months = both_true (member 12 w.date.months.bits (t.month - 1)) _ days.1 in
+    (days.0, (both_true (member 7 w.date.weekdays.bits t.weekday) (member 100 w.date.years.bits (t.year - 2000)) months.1).0)
 
 -- the one that passes the test
 one_passes : {X : Type 0} (p : X → Bool) (xs : List X) → some p xs ≡ true → (i : ℕ) × (i < length xs) × ((d : X) → p (get_or xs i d) ≡ true)

@@ -5,6 +5,7 @@ use Rattle.texts.specs.Matching.{matches}
 use Rattle.texts.specs.Texts.{full}
 use Rattle.notes.specs.Blocks.{block_admits, block_covers}
 use Rattle.notes.specs.Constraints.{list_admits_option}
+use Rattle.notes.specs.Sets.{spelt}
 use Rattle.notes.specs.Windows.{window_admits}
 use Rattle.notes.specs.declared.block.Block.{Block}
 use Rattle.notes.specs.declared.family.Family.TheVariants.{Four}
@@ -13,8 +14,8 @@ use Rattle.notes.specs.declared.window.Window.{Window}
 -- every day in these hours and minutes
 abbrev pub daily : ℕ → ℕ → Window
 daily h m = record {
-  clock = record { seconds = 0xfffffffffffffff; minutes = m; hours = h };
-  date = record { days = 0x7fffffff; months = 0xfff; weekdays = 0b1111111; years = 0xfffffffffffffffffffffffff };
+  clock = record { seconds = spelt 0xfffffffffffffff; minutes = spelt m; hours = spelt h };
+  date = record { days = spelt 0x7fffffff; months = spelt 0xfff; weekdays = spelt 0b1111111; years = spelt 0xfffffffffffffffffffffffff };
 }
 
 -- 22:15 to 0:30: hour 22 with minutes 15 to 59, hour 23, and hour 0 with minutes 0 to 29

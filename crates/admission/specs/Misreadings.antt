@@ -6,7 +6,7 @@ use Rattle.notes.specs.Blocks.{block_admits}
 use Rattle.notes.specs.Constraints.{list_admits_option}
 use Rattle.notes.specs.Contexts.{ContextValue, context_admits}
 use Rattle.notes.specs.Countries.{country_same}
-use Rattle.notes.specs.Sets.{member}
+use Rattle.notes.specs.Sets.{spelt, member}
 use Rattle.notes.specs.Windows.{window_admits}
 use Rattle.notes.specs.declared.block.Address.{Address}
 use Rattle.notes.specs.declared.country.Country.{Country}
@@ -16,13 +16,13 @@ use Rattle.admission.specs.Examples.{daily}
 
 -- day and weekday as alternatives: what a window admits has its day of the month and its weekday in their sets, both
 abbrev pub DayAndWeekday : Type 0
-DayAndWeekday = (w : Window) (t : CivilTime) → window_admits w t ≡ true → (member 31 w.date.days (t.day - 1) ≡ true) × (member 7 w.date.weekdays t.weekday ≡ true)
+DayAndWeekday = (w : Window) (t : CivilTime) → window_admits w t ≡ true → (member 31 w.date.days.bits (t.day - 1) ≡ true) × (member 7 w.date.weekdays.bits t.weekday ≡ true)
 
 -- day 1 and Monday
 abbrev pub first_monday : Window
 first_monday = record {
-  clock = record { seconds = 0xfffffffffffffff; minutes = 0xfffffffffffffff; hours = 0xffffff };
-  date = record { days = 0x40000000; months = 0xfff; weekdays = 0b0100000; years = 0xfffffffffffffffffffffffff };
+  clock = record { seconds = spelt 0xfffffffffffffff; minutes = spelt 0xfffffffffffffff; hours = spelt 0xffffff };
+  date = record { days = spelt 0x40000000; months = spelt 0xfff; weekdays = spelt 0b0100000; years = spelt 0xfffffffffffffffffffffffff };
 }
 
 -- Monday 1 May 2000, and neither Monday 3 January nor Tuesday 1 February 2000

@@ -1,7 +1,6 @@
 -- Requests. Assumes nothing.
 use Rattle.std.specs.Prelude.{ℕ, Bool, List, Option}
 use Rattle.texts.specs.TextValues.{text_of}
-use Rattle.notes.specs.Constraints.{offered}
 use Rattle.notes.specs.declared.block.Address.{Address}
 use Rattle.notes.specs.declared.country.Country.{Country}
 use Rattle.notes.specs.declared.operation.Operation.{Operation}
@@ -22,8 +21,8 @@ request_of q = record {
   identity = text_of q.identity;
   authenticated = q.authenticated;
   operation = q.operation;
-  child_type_of = offered q.has_child_type q.child_type;
+  child_type_of = q.child_type;
   instant = q.circumstances.instant.seconds;
-  address = offered q.circumstances.has_address q.circumstances.address;
-  country = offered q.circumstances.has_country q.circumstances.country;
+  address = q.circumstances.address;
+  country = q.circumstances.country;
 }

@@ -2,8 +2,7 @@
 ghost use Rattle.std.specs.Prelude.{◌≡◌};
 ghost use Rattle.texts.specs.Lists.{some};
 ghost use Rattle.texts.specs.TextValues.{text_of};
-ghost use Rattle.notes.specs.Constraints.{offered};
-ghost use Rattle.notes.specs.Few.{listed};
+ghost use Rattle.texts.specs.Few.{listed};
 ghost use Rattle.notes.specs.Originators.{originator_of};
 ghost use Rattle.admission.specs.Admitting.{originator_matches, types_admit, contexts_admit, rule_is_for, rule_admits};
 ghost use Rattle.admission.specs.Requests.{request_of};
@@ -53,11 +52,11 @@ fn one_matches<L: MemberList>(
 }
 
 // Whether the child types admit the request's. Only Create looks at them.
-fn types_admit(operation: Operation, types: &[u16], there: bool, child_type: u16) -> bool
-    ensures { result ≡ types_admit operation types.now (offered there child_type) }
+fn types_admit(operation: Operation, types: &[u16], child_type: Option<u16>) -> bool
+    ensures { result ≡ types_admit operation types.now child_type }
 {
     match operation {
-        Operation::Create => list_admits(types, there, &child_type),
+        Operation::Create => list_admits(types, child_type.as_ref()),
         Operation::Retrieve
         | Operation::Update
         | Operation::Delete
@@ -76,7 +75,6 @@ impl RuleView<'_> {
                 & types_admit(
                     request.operation,
                     self.parts.child_types(),
-                    request.has_child_type,
                     request.child_type,
                 ))
     }
@@ -85,7 +83,7 @@ impl RuleView<'_> {
     fn contexts_admit(&self, request: &CheckedRequest) -> bool
         ensures { result ≡ contexts_admit (rule_in self.now).contexts (request_of request.now) }
     {
-        list_admits(self.parts.contexts(), true, &request.circumstances)
+        list_admits(self.parts.contexts(), Some(&request.circumstances))
     }
 
     // Whether an originator entry matches the request's identity.

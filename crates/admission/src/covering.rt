@@ -75,7 +75,7 @@ impl RuleView<'_> {
         ensures answer { result ≡ rule_covers (text_of home.now) (rule_in self.now) (rule_in other.now) }
         ensures law { RulesSound }
     {
-        self.parts.side().same(other.parts.side())
+        (self.parts.side() == other.parts.side())
             & ((!self.parts.authenticated() | other.parts.authenticated())
                 & (self.parts.has_operations_of(other.parts)
                     & (self.originators_cover(home, other) & self.lists_cover(other))))

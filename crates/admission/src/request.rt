@@ -2,13 +2,12 @@
 use notes::{Circumstances, Operation};
 use texts::Identity;
 
-// A request whose instant and country were tested. The mark beside the child type says whether the request has one.
+// A request whose instant and country were tested.
 #[derive(Clone, Copy)]
 pub struct CheckedRequest {
     pub identity: Identity,
     pub authenticated: bool,
     pub operation: Operation,
-    pub has_child_type: bool,
-    pub child_type: u16,
+    pub child_type: Option<u16>,
     pub circumstances: Circumstances,
 }

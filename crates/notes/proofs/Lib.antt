@@ -3,3 +3,4 @@ pub mod Padding
 pub mod Notes
 pub mod Careful
 pub mod CarefulRules
+pub mod Sides

@@ -3,6 +3,7 @@ use Rattle.std.specs.Prelude.{◌≡◌, ℕ, true, false, List, [], ◌∷◌, 
 use Rattle.bits.specs.Faults.{ended}
 use Rattle.notes.specs.Faults.{broken}
 use Rattle.notes.specs.Rules.{RuleValue, note_reads}
+use Rattle.notes.specs.Sets.{spelt}
 use Rattle.notes.specs.declared.originator.EntryKind.TheVariants.{All, Pattern}
 use Rattle.notes.specs.declared.family.Family.TheVariants.{Four}
 use Rattle.notes.specs.declared.rule.Side.TheVariants.{Privileges}
@@ -29,8 +30,8 @@ night_rule = record {
   types = 4 ∷ [];
   contexts = record {
     windows = record {
-      clock = record { seconds = 0xfffffffffffffff; minutes = 0x1fffffffffff; hours = 0b10 };
-      date = record { days = 0x7fffffff; months = 0xfff; weekdays = 0b0111110; years = 0xfffffffffffffffffffffffff };
+      clock = record { seconds = spelt 0xfffffffffffffff; minutes = spelt 0x1fffffffffff; hours = spelt 0b10 };
+      date = record { days = spelt 0x7fffffff; months = spelt 0xfff; weekdays = spelt 0b0111110; years = spelt 0xfffffffffffffffffffffffff };
     } ∷ [];
     blocks = record { family = Four; prefix = 16; address = 0x584d0000 } ∷ [];
     countries = record { first = 67; second = 76 } ∷ [];

@@ -10,6 +10,7 @@ use Rattle.texts.specs.Lists.{each}
 use Rattle.notes.specs.Readings.{seq, made, times}
 use Rattle.notes.specs.Contexts.{ContextValue, within, count_reads, context_of, context_lawful, context_form, context_reads}
 use Rattle.notes.specs.Originators.{OriginatorValue, originator_of, originator_lawful, originator_form, originator_reads}
+use Rattle.notes.specs.Sets.{spelt}
 use Rattle.notes.specs.declared.rule.Side.{Side}
 use Rattle.notes.specs.declared.rule.Side.TheVariants.{Privileges, SelfPrivileges}
 use Rattle.notes.specs.declared.rule.Head.{Head}
@@ -29,7 +30,7 @@ abbrev pub rule_of : List ℕ → RuleParts → RuleValue
 rule_of note p = record {
   side = p.side;
   authenticated = p.authenticated;
-  operations = p.operations;
+  operations = p.operations.bits;
   originators = map (originator_of note) (listed p.originators);
   types = listed p.child_types;
   contexts = map context_of (listed p.contexts);
@@ -70,7 +71,7 @@ abbrev pub head_of : RuleValue → Head
 head_of r = record {
   side = r.side;
   authenticated = r.authenticated;
-  operations = r.operations;
+  operations = spelt r.operations;
   originators = length r.originators;
   contexts = length r.contexts;
   child_types = length r.types;
@@ -78,7 +79,7 @@ head_of r = record {
 
 abbrev pub head_form : Head → List ℕ
 head_form h =
-    digits 1 (side_code h.side) ++ (digits 1 (flag_code h.authenticated) ++ (digits 6 h.operations
+    digits 1 (side_code h.side) ++ (digits 1 (flag_code h.authenticated) ++ (digits 6 h.operations.bits
     ++ (digits 3 h.originators ++ (digits 2 h.contexts ++ digits 3 h.child_types))))
 
 -- head, originators, child types, contexts
@@ -87,12 +88,12 @@ rule_form r = head_form (head_of r) ++ (flat_map originator_form r.originators +
 
 abbrev pub head_reads : Reads Head
 head_reads =
-    made (λ z. record { side = side_coded z.0; authenticated = (z.1.0 == 1); operations = z.1.1.0; originators = z.1.1.1.0; contexts = z.1.1.1.1.0; child_types = z.1.1.1.1.1 })
+    made (λ z. record { side = side_coded z.0; authenticated = (z.1.0 == 1); operations = spelt z.1.1.0; originators = z.1.1.1.0; contexts = z.1.1.1.1.0; child_types = z.1.1.1.1.1 })
     (seq (field 1) (λ _. seq (field 1) (λ _. seq (field 6) (λ _. seq (count_reads 3 1 4) (λ _. seq (count_reads 2 0 2) (λ _. count_reads 3 0 4))))))
 
 abbrev pub rule_reads : Reads RuleValue
 rule_reads =
-    made (λ z. record { side = z.0.side; authenticated = z.0.authenticated; operations = z.0.operations; originators = z.1.0; types = z.1.1.0; contexts = z.1.1.1 })
+    made (λ z. record { side = z.0.side; authenticated = z.0.authenticated; operations = z.0.operations.bits; originators = z.1.0; types = z.1.1.0; contexts = z.1.1.1 })
     (seq head_reads (λ h. seq (times h.originators originator_reads) (λ _. seq (times h.child_types (field 16)) (λ _. times h.contexts context_reads))))
 
 -- behind the last field stand fewer than 8 bits, all zero

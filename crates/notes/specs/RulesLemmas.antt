@@ -7,6 +7,7 @@ use Rattle.bits.specs.Codec.{field, Lawful}
 use Rattle.bits.proofs.DigitLaws.{length_digits}
 use Rattle.bits.proofs.Codecs.{lawful_field}
 use Rattle.texts.specs.Lists.{each}
+use Rattle.notes.specs.Sets.{spelt}
 use Rattle.notes.specs.Windows.{window_lawful, window_form}
 use Rattle.notes.specs.Blocks.{block_lawful, block_form}
 use Rattle.notes.specs.Countries.{country_lawful, country_form}
@@ -39,13 +40,13 @@ code_forth (suc zero) h = (refl, refl)
 code_forth (suc (suc n)) h = absurd (omega arith)
 
 abbrev HeadOk : Head → Type 0
-HeadOk h = (h.operations < 2 ^ 6) × ((within 1 4 h.originators ≡ true) × ((within 0 2 h.contexts ≡ true) × (within 0 4 h.child_types ≡ true)))
+HeadOk h = (h.operations.bits < 2 ^ 6) × ((within 1 4 h.originators ≡ true) × ((within 0 2 h.contexts ≡ true) × (within 0 4 h.child_types ≡ true)))
 
 lawful_head : Lawful HeadOk head_form head_reads
 lawful_head =
     lawful_made HeadOk
-    (λ z. record { side = side_coded z.0; authenticated = (z.1.0 == 1); operations = z.1.1.0; originators = z.1.1.1.0; contexts = z.1.1.1.1.0; child_types = z.1.1.1.1.1 })
-    (λ h. (side_code h.side, (flag_code h.authenticated, (h.operations, (h.originators, (h.contexts, h.child_types))))))
+    (λ z. record { side = side_coded z.0; authenticated = (z.1.0 == 1); operations = spelt z.1.1.0; originators = z.1.1.1.0; contexts = z.1.1.1.1.0; child_types = z.1.1.1.1.1 })
+    (λ h. (side_code h.side, (flag_code h.authenticated, (h.operations.bits, (h.originators, (h.contexts, h.child_types))))))
     (λ h ok.
     let s = side_back h.side in
     let f = flag_back h.authenticated in (
@@ -75,7 +76,7 @@ pub lawful_rule : Lawful (λ r. rule_lawful r ≡ true) rule_form rule_reads
 unfolding rule_lawful
 lawful_rule =
     lawful_made (λ r. rule_lawful r ≡ true)
-    (λ z. record { side = z.0.side; authenticated = z.0.authenticated; operations = z.0.operations; originators = z.1.0; types = z.1.1.0; contexts = z.1.1.1 })
+    (λ z. record { side = z.0.side; authenticated = z.0.authenticated; operations = z.0.operations.bits; originators = z.1.0; types = z.1.1.0; contexts = z.1.1.1 })
     (λ r. (head_of r, (r.originators, (r.types, r.contexts))))
     (λ r h.
     let a = both_true (nat_lt r.operations (2 ^ 6)) _ h in

@@ -2,6 +2,11 @@
 use Rattle.std.specs.Prelude.{ℕ, ◌-◌, ◌/◌, ◌%◌, ◌^◌, Bool, not, ◌&&◌, ◌==◌, bit_and, nat_lt}
 use Rattle.bits.specs.Codec.{Reads, field}
 use Rattle.notes.specs.Readings.{guard}
+use Rattle.notes.specs.declared.set.Set.{Set}
+
+-- the set whose digits spell the number
+abbrev pub spelt : {W : ℕ} → ℕ → Set W
+spelt n = record { bits = n }
 
 -- v is in the set s
 abbrev pub member : ℕ → ℕ → ℕ → Bool

@@ -2,40 +2,29 @@
 ghost use Rattle.std.specs.Prelude.{◌≡◌, ◌-◌, ◌^◌, ◌<◌, ◌≤◌, nat_eq};
 ghost use Rattle.bits.specs.Digits.{digits};
 ghost use Rattle.bits.specs.Writer.{Wrote};
-ghost use Rattle.notes.specs.Told.{Read, Fits};
-ghost use Rattle.notes.specs.Sets.{member, contains as contains_of, set_reads};
+ghost use Rattle.notes.specs.Told.{ReadAs, Fits};
+ghost use Rattle.notes.specs.Sets.{spelt, member, contains as contains_of, set_reads};
 
 use super::fault::NoteFault;
 use super::writing::put;
 use bits::{BitReader, BitWriter};
-use std::marker::Model;
 
-// A set of the numbers below `W`, seen as the number that its digits spell: of its `W` binary digits the first stands for 0.
+// A set of the numbers below `W`: of its `W` binary digits the first stands for 0.
 #[derive(Clone, Copy, Default)]
 pub struct Set<const W: usize> {
     bits: u128,
 }
 
-impl<const W: usize> Model for Set<W> {
-    ghost use Rattle.std.specs.Prelude.{ℕ};
-
-    ghost Value = { ℕ };
-
-    ghost view = { λ s. s.bits };
-
-    ghost inverse = { λ n. record { bits = n } };
-}
-
 impl<const W: usize> Set<W> {
     pub(super) fn of(bits: u128) -> Set<W>
-        ensures { result ≡ bits }
+        ensures { result ≡ spelt bits }
     {
         Set { bits }
     }
 
     // A set that is not empty.
     pub(super) fn read(r: &mut BitReader) -> Result<Set<W>, NoteFault>
-        ensures { Read (set_reads W) r.old result r.new }
+        ensures { ReadAs (λ s. s.bits) (set_reads W) r.old result r.new }
     {
         let place = r.place();
         let bits = r.take(W)?;
@@ -47,7 +36,7 @@ impl<const W: usize> Set<W> {
 
     pub(super) fn write(&self, w: &mut BitWriter)
         requires { (W ≤ 128) × (Fits w.old W) }
-        ensures { Wrote w.old w.new (digits W self.now) }
+        ensures { Wrote w.old w.new (digits W self.now.bits) }
     {
         put(w, W, self.bits);
     }
@@ -55,14 +44,14 @@ impl<const W: usize> Set<W> {
     // Whether the number `v` is in the set.
     pub(super) fn has(&self, v: u8) -> bool
         requires { (v < W) × (W ≤ 128) }
-        ensures { result ≡ member W self.now v }
+        ensures { result ≡ member W self.now.bits v }
     {
         (self.bits >> (W - 1 - v as usize)) % 2 == 1
     }
 
     // Whether each number of the other set is in this one.
     pub(super) fn contains(&self, other: &Set<W>) -> bool
-        ensures { result ≡ contains_of self.now other.now }
+        ensures { result ≡ contains_of self.now.bits other.now.bits }
     {
         self.bits & other.bits == other.bits
     }
@@ -70,7 +59,7 @@ impl<const W: usize> Set<W> {
     // Whether the set has every number below the width.
     pub(super) fn is_full(&self) -> bool
         requires { W < 128 }
-        ensures { result ≡ nat_eq self.now (2 ^ W - 1) }
+        ensures { result ≡ nat_eq self.now.bits (2 ^ W - 1) }
     {
         self.bits == (1 << W) - 1
     }

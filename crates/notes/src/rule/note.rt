@@ -73,9 +73,6 @@ impl RuleParts {
 pub fn originator_text(note: &[u8], i: usize) -> Result<Option<&[u8]>, NoteFault>
     ensures { MatchResult result (λ found. MatchOption found (NoText note.now i) (λ t. TextOf note.now i t.now)) (λ e. note_reads note.now ≡ Err (report_of e)) }
 {
-    // Not by `?`: the check cannot make its plan of the way on that carries the parts.
-    match read_parts(note) {
-        Ok(parts) => Ok(parts.text_at(note, i)),
-        Err(fault) => Err(fault),
-    }
+    let parts = read_parts(note)?;
+    Ok(parts.text_at(note, i))
 }

@@ -24,14 +24,14 @@ impl RuleParts {
     }
 
     pub fn has_operation(&self, operation: Operation) -> bool
-        ensures { result ≡ has_operation self.now.operations operation }
+        ensures { result ≡ has_operation self.now.operations.bits operation }
     {
         operation.is_in(&self.operations)
     }
 
     // Whether each operation of the other rule is one of this.
     pub fn has_operations_of(&self, other: &RuleParts) -> bool
-        ensures { result ≡ contains_of self.now.operations other.now.operations }
+        ensures { result ≡ contains_of self.now.operations.bits other.now.operations.bits }
     {
         self.operations.contains(&other.operations)
     }

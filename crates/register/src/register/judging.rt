@@ -50,10 +50,10 @@ impl Register {
         let policy = rule.name().policy;
         match target {
             Target::Number(number) => {
-                rule.side().same(Side::Privileges) & self.is_linked(number, policy)
+                (rule.side() == Side::Privileges) & self.is_linked(number, policy)
             }
             Target::Policy(number) => {
-                rule.side().same(Side::SelfPrivileges) & (policy == number)
+                (rule.side() == Side::SelfPrivileges) & (policy == number)
             }
         }
     }

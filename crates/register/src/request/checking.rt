@@ -8,13 +8,7 @@ use super::super::fault::Cause;
 use super::Request;
 use admission::CheckedRequest;
 use calendar::Instant;
-use notes::{Address, Circumstances, Country, Family};
-
-// Stands where a request has no address.
-const NO_ADDRESS: Address = Address {
-    family: Family::Four,
-    bits: 0,
-};
+use notes::{Circumstances, Country};
 
 fn check_country(country: Option<Country>) -> Result<(), Cause>
     ensures { MatchResult result (λ _. country_refusal country ≡ None) (λ c. country_refusal country ≡ Some (cause_refusal c)) }
@@ -41,14 +35,11 @@ impl Request {
             identity: self.identity,
             authenticated: self.authenticated,
             operation: self.operation,
-            has_child_type: self.child_type.is_some(),
-            child_type: self.child_type.unwrap_or(0),
+            child_type: self.child_type,
             circumstances: Circumstances {
                 instant,
-                has_address: self.address.is_some(),
-                address: self.address.unwrap_or(NO_ADDRESS),
-                has_country: self.country.is_some(),
-                country: self.country.unwrap_or(Country::new(0, 0)),
+                address: self.address,
+                country: self.country,
             },
         }
     }

@@ -1,7 +1,7 @@
 use Rattle.std.proofs.Common.{Some, sym, ap, ◌∙◌}
-use Rattle.notes.specs.Constraints.{offered, list_admits_option}
+use Rattle.notes.specs.Constraints.{list_admits_option}
 use Rattle.notes.specs.Contexts.{context_of, context_admits}
-use Rattle.notes.specs.Few.{listed}
+use Rattle.texts.specs.Few.{listed}
 use Rattle.notes.specs.ConstraintsLemmas.{list_admits_option_map}
 use Rattle.admission.specs.Admitting.{in_context}
 use Rattle.admission.specs.Requests.{request_of}
@@ -12,9 +12,7 @@ unfolding list_admits_option
 returns c =
     let q = c.args.request.now in
     let v = q.circumstances in
-    let address = offered v.has_address v.address in
-    let country = offered v.has_country v.country in
     let xs = listed c.args.self.now.parts.now.contexts in
-    c.list_admits.ensures.offered ∙ ap (λ l. list_admits_option (λ x v. context_admits (context_of x) v.instant.civil (offered v.has_address v.address) (offered v.has_country v.country)) l (Some v)) c.contexts.ensures
-    ∙ ap (λ time. list_admits_option (λ x (_ : Unit {0}). context_admits (context_of x) time address country) xs (Some tt)) v.instant.reads
+    c.list_admits.ensures ∙ ap (λ l. list_admits_option (λ x v. context_admits (context_of x) v.instant.civil v.address v.country) l (Some v)) c.contexts.ensures
+    ∙ ap (λ time. list_admits_option (λ x (_ : Unit {0}). context_admits (context_of x) time v.address v.country) xs (Some tt)) v.instant.reads
     ∙ sym (list_admits_option_map in_context context_of xs (Some (request_of q)))

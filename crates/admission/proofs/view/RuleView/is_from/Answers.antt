@@ -1,7 +1,7 @@
 use Rattle.std.proofs.Common.{sym, ap, ◌∙◌}
 use Rattle.texts.specs.Lists.{some}
 use Rattle.texts.specs.TextValues.{text_of}
-use Rattle.notes.specs.Few.{listed}
+use Rattle.texts.specs.Few.{listed}
 use Rattle.notes.specs.Originators.{originator_of}
 use Rattle.notes.specs.ConstraintsLemmas.{some_map}
 use Rattle.admission.specs.Admitting.{originator_matches}

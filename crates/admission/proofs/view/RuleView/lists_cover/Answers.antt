@@ -1,7 +1,7 @@
 use Rattle.std.proofs.Common.{◌&&◌, eqb, sym, ◌∙◌}
 use Rattle.notes.specs.Constraints.{list_covers}
 use Rattle.notes.specs.Contexts.{context_of, context_covers}
-use Rattle.notes.specs.Few.{listed}
+use Rattle.texts.specs.Few.{listed}
 use Rattle.notes.specs.ConstraintsLemmas.{list_covers_map}
 use Rattle.admission.proofs.view.RuleView.lists_cover.Goals as goal
 

@@ -1,7 +1,7 @@
 use Rattle.std.proofs.Common.{sym, ◌∙◌}
 use Rattle.texts.specs.Lists.{some, each}
 use Rattle.texts.specs.TextValues.{text_of}
-use Rattle.notes.specs.Few.{listed}
+use Rattle.texts.specs.Few.{listed}
 use Rattle.notes.specs.Originators.{originator_of}
 use Rattle.notes.specs.ConstraintsLemmas.{each_some_map}
 use Rattle.admission.specs.Covering.{originator_covers}

@@ -37,5 +37,5 @@ returns c =
     (ap bits one.kept) items in
     record {
       kept = four.kept ∙ three.kept ∙ two.kept ∙ one.kept;
-      cases = ap (mapped {Y = RuleValue} (λ z. record { side = z.0.side; authenticated = z.0.authenticated; operations = z.0.operations; originators = z.1.0; types = z.1.1.0; contexts = z.1.1.1 })) all;
+      cases = ap (mapped {Y = RuleValue} (λ z. record { side = z.0.side; authenticated = z.0.authenticated; operations = z.0.operations.bits; originators = z.1.0; types = z.1.1.0; contexts = z.1.1.1 })) all;
     }

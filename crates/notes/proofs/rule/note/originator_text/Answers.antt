@@ -27,5 +27,5 @@ told note p i read (Some t) (there, says) =
       subst (λ x. x ≡ take (length x) (drop o.place note)) (says spare) (part_place note o.place o.len),
     )
 
-pub returns-in-Ok : goal.returns-in-Ok
-returns-in-Ok c = told c.args.note.now c.in-Ok.parts c.args.i c.in-Ok.ensures c.text_at.result c.text_at.ensures
+pub returns : goal.returns
+returns c = told c.args.note.now c.in_ok-parts.parts c.args.i c.in_ok-parts.ensures c.text_at.result c.text_at.ensures

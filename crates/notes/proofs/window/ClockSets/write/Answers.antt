@@ -8,7 +8,7 @@ pub write-requires : goal.write-requires
 write-requires c = omega (arith, clock_long c.args.self.now)
 
 pub write-requires-2 : goal.write-requires-2
-write-requires-2 c = omega (arith, clock_long c.args.self.now, c.write.ensures.moved, c.write.ensures.size, length_digits 60 c.args.self.now.seconds)
+write-requires-2 c = omega (arith, clock_long c.args.self.now, c.write.ensures.moved, c.write.ensures.size, length_digits 60 c.args.self.now.seconds.bits)
 
 pub write-requires-3 : goal.write-requires-3
 write-requires-3 c =
@@ -17,10 +17,10 @@ write-requires-3 c =
       clock_long c.args.self.now,
       c.write.ensures.moved,
       c.write.ensures.size,
-      length_digits 60 c.args.self.now.seconds,
+      length_digits 60 c.args.self.now.seconds.bits,
       c.write-2.ensures.moved,
       c.write-2.ensures.size,
-      length_digits 60 c.args.self.now.minutes,
+      length_digits 60 c.args.self.now.minutes.bits,
     )
 
 pub returns : goal.returns

@@ -8,7 +8,7 @@ pub write-requires : goal.write-requires
 write-requires c = omega (arith, date_long c.args.self.now)
 
 pub write-requires-2 : goal.write-requires-2
-write-requires-2 c = omega (arith, date_long c.args.self.now, c.write.ensures.moved, c.write.ensures.size, length_digits 31 c.args.self.now.days)
+write-requires-2 c = omega (arith, date_long c.args.self.now, c.write.ensures.moved, c.write.ensures.size, length_digits 31 c.args.self.now.days.bits)
 
 pub write-requires-3 : goal.write-requires-3
 write-requires-3 c =
@@ -17,10 +17,10 @@ write-requires-3 c =
       date_long c.args.self.now,
       c.write.ensures.moved,
       c.write.ensures.size,
-      length_digits 31 c.args.self.now.days,
+      length_digits 31 c.args.self.now.days.bits,
       c.write-2.ensures.moved,
       c.write-2.ensures.size,
-      length_digits 12 c.args.self.now.months,
+      length_digits 12 c.args.self.now.months.bits,
     )
 
 pub write-requires-4 : goal.write-requires-4
@@ -30,13 +30,13 @@ write-requires-4 c =
       date_long c.args.self.now,
       c.write.ensures.moved,
       c.write.ensures.size,
-      length_digits 31 c.args.self.now.days,
+      length_digits 31 c.args.self.now.days.bits,
       c.write-2.ensures.moved,
       c.write-2.ensures.size,
-      length_digits 12 c.args.self.now.months,
+      length_digits 12 c.args.self.now.months.bits,
       c.write-3.ensures.moved,
       c.write-3.ensures.size,
-      length_digits 7 c.args.self.now.weekdays,
+      length_digits 7 c.args.self.now.weekdays.bits,
     )
 
 pub returns : goal.returns
