@@ -28,14 +28,16 @@ impl EntryView<'_> {
 
 impl RuleView<'_> {
     // Whether the rule covers the other, at this home domain. What covers another admits at least as much.
+    #[tactic(auto, using(crate::proofs::Sound::rules_sound), unfolding(crate::specs::Covering::rule_covers))]
     pub fn covers(&self, home: &Domain, other: &RuleView<'_>) -> bool
         ensures answer { result ≡ rule_covers (domain_text home.now) (rule_in self.now) (rule_in other.now) }
         ensures law { RulesSound }
     {
         self.parts.side().same(other.parts.side())
-            & ((!self.parts.authenticated() | other.parts.authenticated())
-                & (self.parts.has_operations_of(other.parts)
-                    & (self.originators_cover(home, other) & self.lists_cover(other))))
+            && (!self.parts.authenticated() || other.parts.authenticated())
+            && self.parts.has_operations_of(other.parts)
+            && self.originators_cover(home, other)
+            && self.lists_cover(other)
     }
 
     // Whether one of the originator entries covers the other rule's entry.
@@ -64,6 +66,6 @@ impl RuleView<'_> {
         ensures { result ≡ lists_cover (rule_in self.now) (rule_in other.now) }
     {
         list_covers(self.parts.child_types(), other.parts.child_types())
-            & list_covers(self.parts.contexts(), other.parts.contexts())
+            && list_covers(self.parts.contexts(), other.parts.contexts())
     }
 }
