@@ -1,3 +1,4 @@
 pub mod Sound
 pub mod Misread
 pub mod Worked
+pub mod Entries

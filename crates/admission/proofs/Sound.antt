@@ -4,7 +4,8 @@ use borrow.Author.Tests.{clash}
 use Rattle.std.proofs.ByRecursion.{All-push}
 use Rattle.calendar.specs.Civil.{civil_of}
 use Rattle.texts.specs.Covering.{short}
-use Rattle.texts.specs.Lists.{some, each}
+use Rattle.std.specs.List.{list_any}
+use Rattle.texts.specs.Lists.{each}
 use Rattle.texts.specs.Matching.{in_domain}
 use Rattle.texts.specs.Texts.{full, domain}
 use Rattle.texts.proofs.Bools.{both_true, and_true, or_true, or_left, or_right}
@@ -66,8 +67,8 @@ entries_sound home o p w c few more lacks identity m =
 
 module _ (home : List ℕ) (few more : Pairs) (lacks : LacksNone few more) (identity : List ℕ) where
   covers_one :
-      (os : List OriginatorValue) (p : OriginatorValue) → each originator_lawful os ≡ true → some (λ o. originator_covers home o p) os ≡ true
-      → originator_matches home few identity p ≡ true → some (originator_matches home more identity) os ≡ true
+      (os : List OriginatorValue) (p : OriginatorValue) → each originator_lawful os ≡ true → list_any (λ o. originator_covers home o p) os ≡ true
+      → originator_matches home few identity p ≡ true → list_any (originator_matches home more identity) os ≡ true
   covers_one [] p w c m = absurd (clash c)
   covers_one (o ∷ os) p w c m =
       let lawful = both_true (originator_lawful o) (each originator_lawful os) w in
@@ -76,10 +77,10 @@ module _ (home : List ℕ) (few more : Pairs) (lacks : LacksNone few more) (iden
 
   covers_each :
       (os ps : List OriginatorValue) → each originator_lawful os ≡ true → originators_cover home os ps ≡ true
-      → some (originator_matches home few identity) ps ≡ true → some (originator_matches home more identity) os ≡ true
+      → list_any (originator_matches home few identity) ps ≡ true → list_any (originator_matches home more identity) os ≡ true
   covers_each os [] w c m = absurd (clash m)
   covers_each os (p ∷ ps) w c m =
-      let h = both_true (some (λ o. originator_covers home o p) os) _ c in
+      let h = both_true (list_any (λ o. originator_covers home o p) os) _ c in
       ⊎_elim (λ a. covers_one os p w h.0 a) (λ a. covers_each os ps w h.1 a) (or_true (originator_matches home few identity p) _ m)
 
 types_sound :
@@ -112,7 +113,7 @@ rules_sound home r s w c few more lacks q a =
     let c4 = both_true (originators_cover home r.originators s.originators) (lists_cover r s) c3.1 in
     let c5 = both_true (list_covers eqb r.types s.types) (list_covers context_covers r.contexts s.contexts) c4.1 in
     let a1 = both_true (rule_is_for s q) _ a in
-    let a2 = both_true (contexts_admit s.contexts q) (some (originator_matches home few q.identity) s.originators) a1.1 in
+    let a2 = both_true (contexts_admit s.contexts q) (list_any (originator_matches home few q.identity) s.originators) a1.1 in
     let b1 = both_true (not s.authenticated || q.authenticated) _ a1.0 in
     let b2 = both_true (has_operation s.operations q.operation) (types_admit q.operation s.types q.child_type_of) b1.1 in
     let flags = flags_sound r.authenticated s.authenticated q.authenticated c2.0 b1.0 in
@@ -132,7 +133,7 @@ kinds_more home few more lacks identity Standing t m = lacks identity t m
 
 some_more :
     (home : List ℕ) (few more : Pairs) → LacksNone few more → (identity : List ℕ) (os : List OriginatorValue)
-    → some (originator_matches home few identity) os ≡ true → some (originator_matches home more identity) os ≡ true
+    → list_any (originator_matches home few identity) os ≡ true → list_any (originator_matches home more identity) os ≡ true
 some_more home few more lacks identity [] m = m
 some_more home few more lacks identity (o ∷ os) m =
     ⊎_elim (λ h. or_left _ _ (kinds_more home few more lacks identity o.kind o.text h)) (λ h. or_right _ _ (some_more home few more lacks identity os h))
@@ -144,5 +145,5 @@ pub members_more :
 unfolding rule_admits
 members_more home few more lacks r q a =
     let a1 = both_true (rule_is_for r q) _ a in
-    let a2 = both_true (contexts_admit r.contexts q) (some (originator_matches home few q.identity) r.originators) a1.1 in
+    let a2 = both_true (contexts_admit r.contexts q) (list_any (originator_matches home few q.identity) r.originators) a1.1 in
     and_true _ _ a1.0 (and_true _ _ a2.0 (some_more home few more lacks q.identity r.originators a2.1))

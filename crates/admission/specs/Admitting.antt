@@ -1,7 +1,7 @@
 -- When a rule admits a request. Assumes nothing.
 use Rattle.std.specs.Prelude.{ℕ, Bool, true, not, ◌&&◌, ◌||◌, List, Some, Option, nat_eq}
 use Rattle.calendar.specs.Civil.{civil_of}
-use Rattle.texts.specs.Lists.{some}
+use Rattle.std.specs.List.{list_any}
 use Rattle.texts.specs.Matching.{matches, in_domain}
 use Rattle.texts.specs.Texts.{full}
 use Rattle.members.specs.Pairs.{Pairs}
@@ -52,4 +52,4 @@ rule_is_for r q =
 -- a rule admits a request, at a home domain and with the pairs of a member list: it is for such requests, its contexts
 -- admit, and some originator entry matches
 unfoldable pub rule_admits : List ℕ → Pairs → RuleValue → RequestValue → Bool
-rule_admits home pairs r q = rule_is_for r q && (contexts_admit r.contexts q && some (originator_matches home pairs q.identity) r.originators)
+rule_admits home pairs r q = rule_is_for r q && (contexts_admit r.contexts q && list_any (originator_matches home pairs q.identity) r.originators)

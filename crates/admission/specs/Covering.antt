@@ -1,7 +1,7 @@
 -- When a rule covers another. Assumes nothing.
 use Rattle.std.specs.Prelude.{ℕ, Bool, true, false, not, ◌&&◌, ◌||◌, List, nat_eq}
 use Rattle.texts.specs.Covering.{pattern_covers, domain_covers}
-use Rattle.texts.specs.Lists.{some, each}
+use Rattle.std.specs.List.{list_any, list_all}
 use Rattle.texts.specs.Same.{same}
 use Rattle.notes.specs.Constraints.{list_covers}
 use Rattle.notes.specs.Contexts.{context_covers}
@@ -32,7 +32,7 @@ originator_covers home o p = kind_covers o.kind p.kind home o.text p.text
 
 -- each entry there is covered by one here
 abbrev pub originators_cover : List ℕ → List OriginatorValue → List OriginatorValue → Bool
-originators_cover home os ps = each (λ p. some (λ o. originator_covers home o p) os) ps
+originators_cover home os ps = list_all (λ p. list_any (λ o. originator_covers home o p) os) ps
 
 -- the child types and the contexts: each list is empty, or the other's is not and each item there is covered by one here
 abbrev pub lists_cover : RuleValue → RuleValue → Bool

@@ -1,54 +1,29 @@
 // Which requests a rule admits.
 ghost use Rattle.std.specs.Prelude.{◌≡◌};
-ghost use Rattle.texts.specs.Lists.{some};
+ghost use Rattle.std.specs.List.{list_any};
 ghost use Rattle.texts.specs.TextValues.{text_of};
-ghost use Rattle.texts.specs.Few.{listed};
-ghost use Rattle.notes.specs.Originators.{originator_of};
 ghost use Rattle.admission.specs.Admitting.{originator_matches, types_admit, contexts_admit, rule_is_for, rule_admits};
 ghost use Rattle.admission.specs.Requests.{request_of};
-ghost use Rattle.admission.specs.Views.{rule_in};
+ghost use Rattle.admission.specs.Views.{rule_in, entry_in};
 
 use super::request::CheckedRequest;
-use super::view::RuleView;
+use super::view::{EntryView, RuleView};
 use members::MemberList;
-use notes::{EntryKind, Operation, Originator, list_admits};
+use notes::{EntryKind, Operation, list_admits};
 use texts::{Domain, Identity, domain_matches, pattern_matches};
 
-// Whether an entry matches the identity. The member list is asked for standings only.
-fn entry_matches<L: MemberList>(
-    entry: &Originator,
-    note: &[u8],
-    home: &Domain,
-    identity: &Identity,
-    members: &L,
-) -> bool
-    ensures { result ≡ originator_matches (text_of home.now) (L.pairs members.now) (text_of identity.now) (originator_of note.now «entry».now) }
-{
-    let text = entry.text(note);
-    match entry.kind() {
-        EntryKind::All => true,
-        EntryKind::Pattern => pattern_matches(home, text, identity.as_bytes()),
-        EntryKind::Domain => domain_matches(text, identity.as_bytes()),
-        EntryKind::Standing => members.has(identity, text),
-    }
-}
-
-// Whether one of the entries matches the identity.
-fn one_matches<L: MemberList>(
-    entries: &[Originator],
-    note: &[u8],
-    home: &Domain,
-    identity: &Identity,
-    members: &L,
-) -> bool
-    ensures { result ≡ some (λ o. originator_matches (text_of home.now) (L.pairs members.now) (text_of identity.now) (originator_of note.now o)) entries.now }
-{
-    for entry in entries {
-        if entry_matches(entry, note, home, identity, members) {
-            return true;
+impl EntryView<'_> {
+    // Whether the entry matches the identity. The member list is asked for standings only.
+    fn matches<L: MemberList>(&self, home: &Domain, identity: &Identity, members: &L) -> bool
+        ensures { result ≡ originator_matches (text_of home.now) (L.pairs members.now) (text_of identity.now) (entry_in self.now) }
+    {
+        match self.kind {
+            EntryKind::All => true,
+            EntryKind::Pattern => pattern_matches(home, self.text, identity.as_bytes()),
+            EntryKind::Domain => domain_matches(self.text, identity.as_bytes()),
+            EntryKind::Standing => members.has(identity, self.text),
         }
     }
-    false
 }
 
 // Whether the child types admit the request's. Only Create looks at them.
@@ -88,18 +63,15 @@ impl RuleView<'_> {
 
     // Whether an originator entry matches the request's identity.
     fn is_from<L: MemberList>(&self, home: &Domain, request: &CheckedRequest, members: &L) -> bool
-        ensures { result ≡ some (originator_matches (text_of home.now) (L.pairs members.now) (text_of request.now.identity)) (rule_in self.now).originators }
+        ensures { result ≡ list_any (originator_matches (text_of home.now) (L.pairs members.now) (text_of request.now.identity)) (rule_in self.now).originators }
     {
-        one_matches(
-            self.parts.originators(),
-            self.note,
-            home,
-            &request.identity,
-            members,
-        )
+        self.parts.originators().iter().any(|entry| self
+            .entry(entry)
+            .matches(home, &request.identity, members))
     }
 
     // Whether the rule admits the request. The member list is asked last, and only where nothing else stands against it.
+    #[tactic(auto, unfolding(crate::specs::Admitting::rule_admits))]
     pub fn admits<L: MemberList>(
         &self,
         home: &Domain,
@@ -108,12 +80,6 @@ impl RuleView<'_> {
     ) -> bool
         ensures { result ≡ rule_admits (text_of home.now) (L.pairs members.now) (rule_in self.now) (request_of request.now) }
     {
-        if !self.is_for(request) {
-            return false;
-        }
-        if !self.contexts_admit(request) {
-            return false;
-        }
-        self.is_from(home, request, members)
+        self.is_for(request) && self.contexts_admit(request) && self.is_from(home, request, members)
     }
 }

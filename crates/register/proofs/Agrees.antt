@@ -15,7 +15,8 @@ use Rattle.register.specs.Faults.{Refusal, plainly}
 use Rattle.register.specs.Requests.{targets_used}
 use Rattle.register.specs.Tables.{Tables, used_rows, opening, is_linked, holdings, Opened, At, with_row, with_link, After, Served}
 use Rattle.register.specs.Targets.{unlinked}
-use Rattle.register.proofs.Counts.{count_cons, count_set, count_same, count_split, count_kept}
+use Rattle.members.proofs.Counts.{count_set}
+use Rattle.register.proofs.Counts.{count_cons, count_same, count_split, count_kept}
 
 some_none : (x : Refusal) → Some x ≡ None → ⊥
 some_none x e = let z : ◌≡◌ {A = ℕ} 0 1 = cc in absurd (omega arith)

@@ -1,6 +1,5 @@
 -- The second season's book is ahead of the first's. Assumes nothing.
 use Rattle.std.proofs.Common.{◌≡◌, ℕ, ◌≤◌, Bool, true, false, cond, not, ◌&&◌, eqb, ◌⊎◌, List, ◌∷◌, Some, None, count_by, Option, sym, refl, ap, ◌∙◌, subst, inl, inr, arith}
-use mathlib.Core.Bool.{false≢true}
 use borrow.Author.Tests.{clash}
 use Rattle.std.proofs.lemmas.Bool.{and_parts, and_from, ltb-false}
 use Rattle.members.specs.Pairs.{Pairs, LacksNone}
@@ -18,7 +17,7 @@ use Rattle.register.specs.Book.{Book, empty, in_book, unless, struck, marked}
 use Rattle.register.specs.Entries.{Entry, is_named}
 use Rattle.register.specs.Faults.{Refusal, plainly}
 use Rattle.register.specs.Requests.{eligible, passes}
-use Rattle.register.proofs.Counts.{count_cons, count_mono, count_split, count_kept}
+use Rattle.register.proofs.Counts.{cond_mono, count_cons, count_mono, count_split, count_kept}
 
 -- the same name, and the same rule or one that covers it
 abbrev pub AtLeast : List ℕ → Entry → Entry → Type 0
@@ -32,12 +31,6 @@ pub record Ahead (home : List ℕ) (b b' : Book) : Type 0 where
 
 pub ahead_empty : (home : List ℕ) → Ahead home empty empty
 ahead_empty home = record { rules = λ f g h. omega arith; links = λ k p h. h }
-
-cond_le : (a b : Bool) → (a ≡ true → b ≡ true) → cond a 1 0 ≤ cond b 1 0
-cond_le true true h = omega arith
-cond_le true false h = absurd (false≢true (h refl))
-cond_le false true h = omega arith
-cond_le false false h = omega arith
 
 both : (x v y z : Bool) → (y ≡ true → z ≡ true) → cond x v y ≡ true → cond x v z ≡ true
 both true v y z h t = t
@@ -53,7 +46,7 @@ with_entry e b = record { rules = e ∷ b.rules; links = b.links }
 module _ {home : List ℕ} {b b' : Book} (a : Ahead home b b') where
   pub enter_both : (e e' : Entry) → AtLeast home e' e → Ahead home (with_entry e b) (with_entry e' b')
   enter_both e e' c = record {
-    rules = λ f g h. omega (arith, count_cons f e b.rules, count_cons g e' b'.rules, cond_le (f e) (g e') (h e e' c), a.rules f g h);
+    rules = λ f g h. omega (arith, count_cons f e b.rules, count_cons g e' b'.rules, cond_mono (f e) (g e') (h e e' c), a.rules f g h);
     links = a.links;
   }
 

@@ -12,7 +12,7 @@ use Rattle.register.specs.Entries.{Entry, entry_of, is_named}
 use Rattle.register.specs.Faults.{Refusal}
 use Rattle.register.specs.Requests.{request_value, request_refusal, counts}
 use Rattle.register.specs.Season.{Met, calls, Through, number, Numbered, CountKept, ByTheBook, Accepted, CoveredBy, Wider, opened, more_added, more_linked, added, withdrawn, linked, unlinked, judged, NeverSmaller, Law}
-use Rattle.register.specs.Tables.{Tables, opening, holdings, After, Served, Placed}
+use Rattle.register.specs.Tables.{Tables, After, Served, Placed}
 use Rattle.register.proofs.Agrees.{Agrees, open_agrees, step_agrees, answer_by_book}
 use Rattle.register.proofs.Ahead.{AtLeast, Ahead, ahead_empty, enter_both, enter_more, mark_both, mark_more, withdraw_both, unless_both, unless_more, unless_added, still_passes}
 use Rattle.register.proofs.Counts.{count_mono}
@@ -149,15 +149,6 @@ never_smaller o t u (judged {ms = ms} {ns = ns} {q = q} {few = few} {more = more
 
 pub season_law : (o : Opening) (ms : List Met) (t : Tables) → Through o ms t → Law o ms
 season_law o ms t h = (by_the_book o ms t h, λ ns u k w. never_smaller o t u w h k)
-
-after_nothing : (x : Answer) (t : Tables) → After x t t (t ≡ t)
-after_nothing accepted t = refl
-after_nothing (refused y) t = refl
-after_nothing (permitted p n c) t = refl
-after_nothing denied t = refl
-
-pub judge_served : (q : Request) (pairs : Pairs) (t : Tables) (x : Answer) → Answers (opening t) (holdings t) (judge q pairs) x → Served (judge q pairs) t x t
-judge_served q pairs t x h = record { answer = h; later = after_nothing x t }
 
 pub judge_law :
     (q : Request) (pairs : Pairs) (t : Tables) (x : Answer) → Served (judge q pairs) t x t

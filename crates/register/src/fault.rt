@@ -43,6 +43,7 @@ impl From<NoteFault> for Cause {
     }
 }
 
+// A fault of the register itself. The numbers stand in `Cause::report` alone.
 fn own(number: u8) -> Report
     ensures { result ≡ own_report number }
 {
@@ -70,7 +71,7 @@ impl Cause {
     }
 }
 
-// Any fault but that of a note.
+// A fault that names no rule.
 impl From<Cause> for RegisterFault {
     ghost from_gives = { λ c x. x ≡ record { cause = c; rule = NoName } };
 

@@ -32,9 +32,8 @@ impl Verdict {
                 number,
                 count,
             } => {
-                let lowest = RuleName { policy, number };
+                let lowest = name.min(RuleName { policy, number });
                 let count = count + 1;
-                let lowest = if name < lowest { name } else { lowest };
                 Verdict::Permit {
                     policy: lowest.policy,
                     number: lowest.number,

@@ -52,13 +52,14 @@ impl Register {
             Target::Number(number) => {
                 (rule.side() == Side::Privileges) & self.is_linked(number, policy)
             }
-            Target::Policy(number) => {
-                (rule.side() == Side::SelfPrivileges) & (policy == number)
+            Target::Policy(itself) => {
+                (rule.side() == Side::SelfPrivileges) & (policy == itself)
             }
         }
     }
 
     // Whether the rule is eligible and admits the request.
+    #[tactic(auto, unfolding(crate::specs::Requests::passes))]
     fn passes<L: MemberList>(
         &self,
         rule: &HeldRule,
@@ -91,6 +92,18 @@ impl Register {
         verdict
     }
 
+    fn decide<L: MemberList>(
+        &self,
+        request: &Request,
+        members: &L,
+    ) -> Result<Verdict, RegisterFault>
+        ensures { Served (judge_call request.now (L.pairs members.now)) (tables self.now) (decided result) (tables self.now) }
+    {
+        self.check_target(request.target)?;
+        let checked = request.check()?;
+        Ok(self.survey(request.target, &checked, members))
+    }
+
     // Judges a request with a member list. Over every season of calls that the register has met since it was opened, its
     // answers are those of the season book, and a wider season never gives a smaller number.
     pub fn judge<L: MemberList>(
@@ -101,8 +114,6 @@ impl Register {
         ensures answer { Served (judge_call request.now (L.pairs members.now)) (tables self.now) (decided result) (tables self.now) }
         ensures season { (o : Opening) (ms : List Met) → Through o ms (tables self.now) → Law o (record { call = judge_call request.now (L.pairs members.now); answer = decided result } ∷ ms) }
     {
-        self.check_target(request.target)?;
-        let checked = request.check()?;
-        Ok(self.survey(request.target, &checked, members))
+        self.decide(request, members)
     }
 }

@@ -5,10 +5,10 @@ use Rattle.texts.specs.Few.{listed}
 use Rattle.notes.specs.ConstraintsLemmas.{list_covers_map}
 use Rattle.admission.proofs.view.RuleView.lists_cover.Goals as goal
 
-pub returns : goal.returns
-returns c =
-    let types = c.list_covers.ensures ∙ (λ i. list_covers eqb (c.child_types.ensures i) (c.child_types-2.ensures i)) in
+pub returns-then-list_covers : goal.returns-then-list_covers
+returns-then-list_covers c =
+    let types = c.if-list_covers.ensures ∙ (λ i. list_covers eqb (c.child_types.ensures i) (c.child_types-2.ensures i)) in
     let contexts =
-    c.list_covers-2.ensures ∙ (λ i. list_covers (λ x y. context_covers (context_of x) (context_of y)) (c.contexts.ensures i) (c.contexts-2.ensures i))
+    c.list_covers-then-list_covers.ensures ∙ (λ i. list_covers (λ x y. context_covers (context_of x) (context_of y)) (c.contexts.ensures i) (c.contexts-then-list_covers.ensures i))
     ∙ sym (list_covers_map context_covers context_of (listed c.args.self.now.parts.now.contexts) (listed c.args.other.now.parts.now.contexts)) in
     λ i. types i && contexts i

@@ -1,16 +1,19 @@
-use Rattle.std.proofs.Common.{sym, ◌∙◌}
-use Rattle.texts.specs.Lists.{some, each}
+use Rattle.std.proofs.Common.{◌≡◌, sym, ap, ◌∙◌, rules, tests}
+use Rattle.std.proofs.lemmas.Iterator.{YieldsList-from_slice}
+use Rattle.std.proofs.lemmas.Iterator.Search.{all_from_yields_List}
+use Rattle.std.specs.List.{list_any, list_all}
+use Rattle.std.proofs.lemmas.List.Folds.{list_all-map}
 use Rattle.texts.specs.TextValues.{text_of}
 use Rattle.texts.specs.Few.{listed}
-use Rattle.notes.specs.Originators.{originator_of}
-use Rattle.notes.specs.ConstraintsLemmas.{each_some_map}
+use Rattle.notes.specs.Originators.{OriginatorValue, originator_of}
 use Rattle.admission.specs.Covering.{originator_covers}
+use Rattle.admission.specs.Views.{rule_in}
 use Rattle.admission.proofs.view.RuleView.originators_cover.Goals as goal
 
 pub returns : goal.returns
 returns c =
-    let covers = originator_covers (text_of c.args.home.now) in
-    let here = originator_of c.args.self.now.note.now in
+    let covered = λ (p : OriginatorValue). list_any (λ o. originator_covers (text_of c.args.home.now) o p) (rule_in c.args.self.now).originators in
     let there = originator_of c.args.other.now.note.now in
-    c.each_covered.ensures ∙ (λ i. each (λ p. some (λ o. covers (here o) (there p)) (c.originators.ensures i)) (c.originators-2.ensures i))
-    ∙ sym (each_some_map covers here there (listed c.args.self.now.parts.now.originators) (listed c.args.other.now.parts.now.originators))
+    let one : c.all.result ≡ list_all (λ p. covered (there p)) c.originators.result.now =
+    all_from_yields_List (λ p. covered (there p)) _ _ _ c.all.ensures.ran (YieldsList-from_slice c.originators.result.now cc) (λ x b q k. search (rules, tests)) in
+    one ∙ ap (list_all (λ p. covered (there p))) c.originators.ensures ∙ sym (list_all-map covered there (listed c.args.other.now.parts.now.originators))
