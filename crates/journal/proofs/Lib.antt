@@ -1,5 +1,5 @@
 mod Calls
 mod Decimals
 mod Fields
-mod Noted
+mod Names
 mod Pieces

@@ -1,29 +1,7 @@
--- A text up to its first separator is its first piece, and no piece is longer than the text. Assumes nothing.
-use Rattle.std.proofs.Common.{◌≡◌, ℕ, zero, suc, ◌-◌, ◌<◌, ◌≤◌, true, false, cond, eqb, List, [], ◌∷◌, length, get_or, take, drop, refl, arith}
-use Rattle.std.proofs.lemmas.Bool.{eq-eqb, ne_eqb}
+-- No piece is longer than the text. Assumes nothing.
+use Rattle.std.proofs.Common.{ℕ, ◌-◌, ◌<◌, ◌≤◌, true, false, cond, eqb, List, [], ◌∷◌, length, arith}
 use Rattle.texts.specs.Pieces.{in_front, pieces}
 use Rattle.journal.specs.Words.{Within}
-
--- no separator stands among the first n bytes
-abbrev pub Free : ℕ → List ℕ → ℕ → Type 0
-Free sep bs n = (k : ℕ) → k < n → get_or bs k 0 ≡ sep → ⊥
-
-pub pieces_whole : (sep : ℕ) (bs : List ℕ) → Free sep bs (length bs) → pieces sep bs ≡ bs ∷ []
-unfolding pieces
-pieces_whole sep [] free = refl
-pieces_whole sep (b ∷ bs) free =
-    let rest = pieces_whole sep bs (λ k h. free (suc k) (omega arith)) in
-    let other = ne_eqb b sep (free 0 (omega arith)) in
-    rw (other, rest)
-
-pub pieces_cut : (sep : ℕ) (bs : List ℕ) (i : ℕ) → i < length bs → get_or bs i 0 ≡ sep → Free sep bs i → pieces sep bs ≡ take i bs ∷ pieces sep (drop (suc i) bs)
-unfolding pieces
-pieces_cut sep [] i inside here free = absurd (omega arith)
-pieces_cut sep (b ∷ bs) zero inside here free = rw (eq-eqb b sep here)
-pieces_cut sep (b ∷ bs) (suc i) inside here free =
-    let rest = pieces_cut sep bs i (omega arith) here (λ k h. free (suc k) (omega arith)) in
-    let other = ne_eqb b sep (free 0 (omega arith)) in
-    rw (other, rest)
 
 within_in_front : (b n : ℕ) (ps : List (List ℕ)) → 0 < n → Within (n - 1) ps → Within n ps → Within n (in_front b ps)
 within_in_front b n [] some less within = (omega arith, tt)

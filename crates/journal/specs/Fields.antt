@@ -4,6 +4,7 @@ use Rattle.std.specs.Borrow.{Bor}
 use Rattle.journal.specs.declared.name.CallName.{CallName}
 use Rattle.journal.specs.declared.unreadable.Field.{Field}
 use Rattle.journal.specs.declared.unreadable.Kind.{Kind}
+use Rattle.journal.specs.declared.unreadable.Kind.TheVariants.{End}
 use Rattle.journal.specs.declared.unreadable.Unreadable.{Unreadable}
 use Rattle.journal.specs.declared.unreadable.Unreadable.TheVariants.{Missing, Empty, Other}
 use Rattle.journal.specs.Names.{spelling}
@@ -36,6 +37,11 @@ Ended field words (Err e) = (e ≡ fault field words) × (words ≢ [])
 abbrev pub FaultAt : ℕ → List Kind → List (List ℕ) → Unreadable → Type 0
 FaultAt place [] words e = ⊥
 FaultAt place (kind ∷ kinds) words e = (e ≡ fault (field_at place kind) words) ⊎ FaultAt (place + 1) kinds (drop 1 words) e
+
+-- the only word after the name reads as x; or the words are no such one
+abbrev pub Alone : {X : Type 0} → (List ℕ → X → Type 0) → Kind → List (List ℕ) → Result X Unreadable → Type 0
+Alone reads kind words (Ok x) = (word : List ℕ) × (words ≡ word ∷ []) × reads word x
+Alone {X} reads kind words (Err e) = ((word : List ℕ) (x : X) → words ≡ word ∷ [] → reads word x → ⊥) × FaultAt 2 (kind ∷ End ∷ []) words e
 
 -- the word is the name's spelling
 abbrev pub Named : List ℕ → CallName → Type 0

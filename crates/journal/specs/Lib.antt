@@ -5,6 +5,6 @@ pub mod Lines
 pub mod Names
 pub mod Notes
 pub mod Numbers
+pub mod Refusals
 pub mod Tallies
 pub mod Words
-pub mod Layers

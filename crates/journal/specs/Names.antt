@@ -1,6 +1,7 @@
 -- How the calls are named. Assumes nothing.
-use Rattle.std.specs.Prelude.{ℕ, List, codes}
+use Rattle.std.specs.Prelude.{◌≡◌, ◌≢◌, ℕ, List, codes, Result, MatchResult}
 use Rattle.journal.specs.declared.name.CallName.{CallName}
+use Rattle.journal.specs.declared.name.UnknownName.{UnknownName}
 use Rattle.journal.specs.declared.name.CallName.TheVariants.{Open, Add, Withdraw, Link, Unlink, Member, Present, Clear, Leave, Readmit, Judge, Role, Request, Read, Write, Cover, When}
 
 abbrev pub spelling : CallName → List ℕ
@@ -21,3 +22,7 @@ spelling Read = codes "read"
 spelling Write = codes "write"
 spelling Cover = codes "cover"
 spelling When = codes "when"
+
+-- the name that the word spells, or an error where it spells none
+abbrev pub NameOf : List ℕ → Result CallName UnknownName → Type 0
+NameOf word r = MatchResult r (λ name. word ≡ spelling name) (λ _. (name : CallName) → word ≢ spelling name)

@@ -1,14 +1,15 @@
 // What a call is answered.
-ghost use Rattle.std.specs.Prelude.{◌≡◌, ◌≤◌, length};
-ghost use Rattle.journal.specs.Answers.{when_answer, ReadAnswer, WriteAnswer, Answered, Replied};
+ghost use Rattle.std.specs.Prelude.{◌≤◌, length, MatchResult};
+ghost use Rattle.journal.specs.Answers.{Answered, Replied};
+ghost use Rattle.journal.specs.Refusals.{report};
+ghost use Rattle.journal.specs.declared.answer.Answer.TheVariants.{Refused};
 ghost use Rattle.texts.specs.Pieces.{pieces};
-ghost use Rattle.notes.specs.Rules.{note_reads};
 
 use crate::call::Call;
-use crate::report::write_report;
+use crate::refusal::Refusal;
 use crate::unreadable::Unreadable;
 use crate::written::Written;
-use bits::{Layer, Report};
+use bits::Report;
 use calendar::{CivilTime, Instant};
 use notes::Rule;
 use std::fmt;
@@ -21,13 +22,6 @@ pub enum Answer {
     Note(Written),
     Unreadable(Unreadable),
 }
-
-// An instant that lies past the calendar's last year.
-const PAST_CALENDAR: Report = Report {
-    number: 14,
-    place: 0,
-    layer: Layer::Register,
-};
 
 impl Answer {
     // The answer to a line that is a call, or should be one. The space takes the bytes of its note.
@@ -44,37 +38,23 @@ impl Answer {
     fn of_call(call: Call) -> Answer
         ensures { Answered call.entry result }
     {
+        match Answer::accepted(call) {
+            Ok(answer) => answer,
+            Err(refusal) => Answer::Refused(refusal.report()),
+        }
+    }
+
+    // The answer to a call that is not refused.
+    fn accepted(call: Call) -> Result<Answer, Refusal>
+        ensures { MatchResult result (λ answer. Answered call.entry answer) (λ refusal. Answered call.entry (Refused (report refusal))) }
+    {
         match call {
-            Call::When(seconds) => Answer::of_when(seconds),
-            Call::Read(note) => Answer::of_read(note),
-            Call::Write(note) => Answer::of_write(note),
-        }
-    }
-
-    fn of_when(seconds: u32) -> Answer
-        ensures { result ≡ when_answer seconds }
-    {
-        match Instant::new(seconds) {
-            Some(instant) => Answer::Civil(instant.civil()),
-            None => Answer::Refused(PAST_CALENDAR),
-        }
-    }
-
-    fn of_read(note: &[u8]) -> Answer
-        ensures { ReadAnswer (note_reads note.now) result }
-    {
-        match Rule::read(note) {
-            Ok(rule) => Answer::Rule(rule),
-            Err(fault) => Answer::Refused(fault.report()),
-        }
-    }
-
-    fn of_write(note: &[u8]) -> Answer
-        ensures { WriteAnswer (note_reads note.now) note.now result }
-    {
-        match Rule::read(note) {
-            Ok(rule) => Answer::Note(Written::of_rule(&rule)),
-            Err(fault) => Answer::Refused(fault.report()),
+            Call::When(seconds) => {
+                let instant = Instant::new(seconds).ok_or(Refusal::PastCalendar)?;
+                Ok(Answer::Civil(instant.civil()))
+            }
+            Call::Read(note) => Ok(Answer::Rule(Rule::read(note)?)),
+            Call::Write(note) => Ok(Answer::Note(Written::of_rule(&Rule::read(note)?))),
         }
     }
 }
@@ -82,7 +62,7 @@ impl Answer {
 impl fmt::Display for Answer {
     fn fmt<W: fmt::Write>(&self, f: &mut fmt::Formatter<W>) -> fmt::Result {
         match self {
-            Answer::Refused(report) => write_report(report, f),
+            Answer::Refused(report) => write!(f, "refused {report}"),
             Answer::Civil(time) => write_civil(time, f),
             Answer::Rule(rule) => write!(f, "{rule}"),
             Answer::Note(note) => write!(f, "note {note}"),

@@ -1,7 +1,10 @@
 // A line read as a call.
 ghost use Rattle.std.specs.Prelude.{◌≤◌, length};
 ghost use Rattle.journal.specs.Calls.{ReadsCall, ReadsLine};
-ghost use Rattle.journal.specs.declared.name.CallName.TheVariants.{When, Read, Write};
+ghost use Rattle.journal.specs.declared.unreadable.Kind.TheVariants.{Instant, Note};
+ghost use Rattle.journal.specs.Fields.{Alone};
+ghost use Rattle.journal.specs.Notes.{Noted};
+ghost use Rattle.journal.specs.Numbers.{Decimal};
 ghost use Rattle.journal.specs.Words.{left, Within};
 ghost use Rattle.texts.specs.Pieces.{pieces};
 
@@ -40,35 +43,28 @@ fn arguments<'a>(
 {
     // Each arm returns at once: the space is lent on in some of them only, and the checker does not join such ways.
     match name {
-        CallName::When => return when(words),
-        CallName::Read => return read(words, space),
-        CallName::Write => return write(words, space),
+        CallName::When => return Ok(Call::When(instant(words)?)),
+        CallName::Read => return Ok(Call::Read(note(words, space)?)),
+        CallName::Write => return Ok(Call::Write(note(words, space)?)),
         _ => Err(Unreadable::NotServed(name)),
     }
 }
 
-fn when<'a>(words: &mut Words<'_>) -> Result<Call<'a>, Unreadable>
-    ensures { ReadsCall When (left words.old) result }
+// The instant that is the only word left.
+fn instant(words: &mut Words<'_>) -> Result<u32, Unreadable>
+    ensures { Alone Decimal Instant (left words.old) result }
 {
     let instant = field::instant(words, 2)?;
     field::end(words, 3)?;
-    Ok(Call::When(instant))
+    Ok(instant)
 }
 
-fn read<'a>(words: &mut Words<'_>, space: &'a mut [u8]) -> Result<Call<'a>, Unreadable>
+// The note that is the only word left.
+fn note<'a>(words: &mut Words<'_>, space: &'a mut [u8]) -> Result<&'a [u8], Unreadable>
     requires { Within (length space.old) (left words.old) }
-    ensures { ReadsCall Read (left words.old) result }
+    ensures { Alone Noted Note (left words.old) result }
 {
     let note = field::note(words, 2, space)?;
     field::end(words, 3)?;
-    Ok(Call::Read(note))
-}
-
-fn write<'a>(words: &mut Words<'_>, space: &'a mut [u8]) -> Result<Call<'a>, Unreadable>
-    requires { Within (length space.old) (left words.old) }
-    ensures { ReadsCall Write (left words.old) result }
-{
-    let note = field::note(words, 2, space)?;
-    field::end(words, 3)?;
-    Ok(Call::Write(note))
+    Ok(note)
 }

@@ -21,10 +21,7 @@ pub fn name(words: &mut Words<'_>) -> Result<CallName, Unreadable>
         kind: Kind::Name,
     };
     let word = next_word(words, field)?;
-    match CallName::from_word(word) {
-        Some(name) => Ok(name),
-        None => Err(Unreadable::Other(field)),
-    }
+    CallName::try_from(word).map_err(|_| Unreadable::Other(field))
 }
 
 // An instant, not yet held to the years that the calendar has.
@@ -36,10 +33,7 @@ pub fn instant(words: &mut Words<'_>, place: u8) -> Result<u32, Unreadable>
         kind: Kind::Instant,
     };
     let word = next_word(words, field)?;
-    match decimal(word) {
-        Some(number) => Ok(number),
-        None => Err(Unreadable::Other(field)),
-    }
+    decimal(word).ok_or(Unreadable::Other(field))
 }
 
 // A note, of which the space takes the bytes.
@@ -56,10 +50,7 @@ pub(crate) fn note<'a>(
         kind: Kind::Note,
     };
     let word = next_word(words, field)?;
-    match note::note(word, space) {
-        Some(note) => Ok(note),
-        None => Err(Unreadable::Other(field)),
-    }
+    note::note(word, space).ok_or(Unreadable::Other(field))
 }
 
 // No word is left, so that `place` is past the last.

@@ -24,9 +24,5 @@ pub fn kind_of(line: &[u8]) -> LineKind
 pub fn without_line_feed(line: &[u8]) -> &[u8]
     ensures { result.now ≡ bare line.now }
 {
-    match line {
-        [text @ .., b'\n'] => text,
-        [.., _] => line,
-        [] => line,
-    }
+    line.strip_suffix(b"\n").unwrap_or(line)
 }

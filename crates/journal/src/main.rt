@@ -8,8 +8,8 @@ mod line;
 mod name;
 mod note;
 mod number;
+mod refusal;
 mod replay;
-mod report;
 mod tally;
 mod unreadable;
 mod words;
@@ -17,7 +17,7 @@ mod written;
 
 use replay::{Replay, Stopped};
 use std::fs::File;
-use std::io::{BufReader, BufWriter, Write};
+use std::io::{BufReader, BufWriter, Read, Write};
 use std::process::ExitCode;
 use std::{env, fmt, io};
 
@@ -28,6 +28,18 @@ enum Failure {
     Input(io::Error),
     File(String, io::Error),
     Output(io::Error),
+}
+
+impl Failure {
+    // Why the replay of a source stopped, where a line that could not be read fails as `unread` says.
+    fn of<F: FnOnce(io::Error) -> Failure>(stopped: Stopped, unread: F) -> Failure
+        requires { F.IsAlwaysCallable unread }
+    {
+        match stopped {
+            Stopped::Read(error) => unread(error),
+            Stopped::Write(error) => Failure::Output(error),
+        }
+    }
 }
 
 impl fmt::Display for Failure {
@@ -52,58 +64,39 @@ fn main(rt: HostRuntime) -> ExitCode {
 }
 
 fn start(rt: &HostRuntime) -> Result<(), Failure> {
-    match BufWriter::new(rt.alloc(), rt.stdout()) {
-        Ok(out) => run(rt, &mut Replay::new(rt.alloc(), out)),
-        Err(error) => Err(Failure::Output(error)),
-    }
+    let out = BufWriter::new(rt.alloc(), rt.stdout()).map_err(Failure::Output)?;
+    run(rt, &mut Replay::new(rt.alloc(), out))
 }
 
 fn run<W: Write>(rt: &HostRuntime, replay: &mut Replay<W>) -> Result<(), Failure> {
-    let mut names = match env::args(rt) {
-        Ok(names) => names,
-        Err(error) => return Err(Failure::Arguments(error)),
-    };
+    let mut names = env::args(rt).map_err(Failure::Arguments)?;
     let _program = names.next();
     if names.len() == 0 {
-        read_input(rt, replay)?;
+        read(rt, replay, rt.stdin()).map_err(|stopped| Failure::of(stopped, Failure::Input))?;
     }
     for name in names {
-        read_file(rt, replay, name)?;
+        read_file(rt, replay, name.as_str()).map_err(|stopped| Failure::of(
+            stopped,
+            |error| Failure::File(name, error),
+        ))?;
     }
-    match replay.write_sum() {
-        Ok(()) => Ok(()),
-        Err(error) => Err(Failure::Output(error)),
-    }
-}
-
-fn read_input<W: Write>(rt: &HostRuntime, replay: &mut Replay<W>) -> Result<(), Failure> {
-    let mut input = match BufReader::new(rt.alloc(), rt.stdin()) {
-        Ok(input) => input,
-        Err(error) => return Err(Failure::Input(error)),
-    };
-    match replay.read_all(&mut input) {
-        Ok(()) => Ok(()),
-        Err(Stopped::Read(error)) => Err(Failure::Input(error)),
-        Err(Stopped::Write(error)) => Err(Failure::Output(error)),
-    }
+    replay.write_sum().map_err(Failure::Output)
 }
 
 fn read_file<W: Write>(
     rt: &HostRuntime,
     replay: &mut Replay<W>,
-    name: String,
-) -> Result<(), Failure> {
-    let file = match File::open(rt, name.as_str()) {
-        Ok(file) => file,
-        Err(error) => return Err(Failure::File(name, error)),
-    };
-    let mut input = match BufReader::new(rt.alloc(), file) {
-        Ok(input) => input,
-        Err(error) => return Err(Failure::File(name, error)),
-    };
-    match replay.read_all(&mut input) {
-        Ok(()) => Ok(()),
-        Err(Stopped::Read(error)) => Err(Failure::File(name, error)),
-        Err(Stopped::Write(error)) => Err(Failure::Output(error)),
-    }
+    name: &str,
+) -> Result<(), Stopped> {
+    let file = File::open(rt, name).map_err(Stopped::Read)?;
+    read(rt, replay, file)
+}
+
+fn read<W: Write, R: Read + Drop>(
+    rt: &HostRuntime,
+    replay: &mut Replay<W>,
+    source: R,
+) -> Result<(), Stopped> {
+    let mut input = BufReader::new(rt.alloc(), source).map_err(Stopped::Read)?;
+    replay.read_all(&mut input)
 }

@@ -1,11 +1,10 @@
 // The names of the calls.
-ghost use Rattle.std.specs.Prelude.{◌≡◌, MatchOption, ◌≢◌};
-ghost use Rattle.journal.specs.Names.{spelling};
-ghost use Rattle.journal.specs.declared.name.CallName.{CallName as Name};
+ghost use Rattle.std.specs.Prelude.{◌≡◌, Some};
+ghost use Rattle.journal.specs.Names.{spelling, NameOf};
 
 use std::fmt;
 
-#[derive(Clone, Copy)]
+#[derive(Clone, Copy, Debug, PartialEq, Eq)]
 pub enum CallName {
     Open,
     Add,
@@ -26,43 +25,44 @@ pub enum CallName {
     When,
 }
 
+const ALL: [CallName; 17] = [
+    CallName::Open,
+    CallName::Add,
+    CallName::Withdraw,
+    CallName::Link,
+    CallName::Unlink,
+    CallName::Member,
+    CallName::Present,
+    CallName::Clear,
+    CallName::Leave,
+    CallName::Readmit,
+    CallName::Judge,
+    CallName::Role,
+    CallName::Request,
+    CallName::Read,
+    CallName::Write,
+    CallName::Cover,
+    CallName::When,
+];
+
+// A word that is the name of no call.
+#[derive(Clone, Copy, Debug, PartialEq, Eq)]
+pub struct UnknownName;
+
+impl TryFrom<&[u8]> for CallName {
+    type Error = UnknownName;
+
+    ghost try_from_gives = { λ word r. NameOf word.now r };
+
+    fn try_from(word: &[u8]) -> Result<CallName, UnknownName> {
+        ALL.iter()
+            .copied()
+            .find(|name| name.as_str().as_bytes() == word)
+            .ok_or(UnknownName)
+    }
+}
+
 impl CallName {
-    // The name that the word spells.
-    pub fn from_word(word: &[u8]) -> Option<CallName>
-        ensures { MatchOption result ((name : Name) → word.now ≢ spelling name) (λ name. word.now ≡ spelling name) }
-    {
-        match std::str::from_utf8(word) {
-            Ok(text) => CallName::from_text(text),
-            // The names are ASCII.
-            Err(_) => None,
-        }
-    }
-
-    fn from_text(text: &str) -> Option<CallName>
-        ensures { MatchOption result ((name : Name) → text.now ≢ spelling name) (λ name. text.now ≡ spelling name) }
-    {
-        match text {
-            "open" => Some(CallName::Open),
-            "add" => Some(CallName::Add),
-            "withdraw" => Some(CallName::Withdraw),
-            "link" => Some(CallName::Link),
-            "unlink" => Some(CallName::Unlink),
-            "member" => Some(CallName::Member),
-            "present" => Some(CallName::Present),
-            "clear" => Some(CallName::Clear),
-            "leave" => Some(CallName::Leave),
-            "readmit" => Some(CallName::Readmit),
-            "judge" => Some(CallName::Judge),
-            "role" => Some(CallName::Role),
-            "request" => Some(CallName::Request),
-            "read" => Some(CallName::Read),
-            "write" => Some(CallName::Write),
-            "cover" => Some(CallName::Cover),
-            "when" => Some(CallName::When),
-            _ => None,
-        }
-    }
-
     fn as_str(self) -> &'static str
         ensures { result.now ≡ spelling self }
     {
@@ -89,6 +89,8 @@ impl CallName {
 }
 
 impl fmt::Display for CallName {
+    ghost output = { λ name. Some (spelling name) };
+
     fn fmt<W: fmt::Write>(&self, f: &mut fmt::Formatter<W>) -> fmt::Result {
         f.write_str(self.as_str())
     }

@@ -39,14 +39,10 @@ impl<W: Write> Replay<W> {
     pub fn read_all<R: BufRead>(&mut self, source: &mut R) -> Result<(), Stopped> {
         // No source has so many lines: the bound is there since nothing says that a source ends.
         for _ in 0..u64::MAX {
-            match self.read_line(source) {
-                Ok(true) => {}
-                Ok(false) => break,
-                Err(error) => return Err(Stopped::Read(error)),
+            if !self.read_line(source).map_err(Stopped::Read)? {
+                break;
             }
-            if let Err(error) = self.answer_line() {
-                return Err(Stopped::Write(error));
-            }
+            self.answer_line().map_err(Stopped::Write)?;
         }
         Ok(())
     }

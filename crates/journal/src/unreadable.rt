@@ -3,7 +3,7 @@ use crate::name::CallName;
 use std::fmt;
 
 // What is expected of a word.
-#[derive(Clone, Copy)]
+#[derive(Clone, Copy, Debug, PartialEq, Eq)]
 pub enum Kind {
     Name,
     Instant,
@@ -13,14 +13,14 @@ pub enum Kind {
 }
 
 // What is expected at a place of the line, whose words are counted from 1.
-#[derive(Clone, Copy)]
+#[derive(Clone, Copy, Debug, PartialEq, Eq)]
 pub struct Field {
     pub place: u8,
     pub kind: Kind,
 }
 
 // A word is missing, empty or another than the field expects, or the call is known and not served.
-#[derive(Clone, Copy)]
+#[derive(Clone, Copy, Debug, PartialEq, Eq)]
 pub enum Unreadable {
     Missing(Field),
     Empty(Field),
@@ -28,15 +28,20 @@ pub enum Unreadable {
     NotServed(CallName),
 }
 
-impl fmt::Display for Field {
+impl fmt::Display for Kind {
     fn fmt<W: fmt::Write>(&self, f: &mut fmt::Formatter<W>) -> fmt::Result {
-        let Field { place, kind } = *self;
-        let kind = match kind {
+        f.write_str(match self {
             Kind::Name => "the name of a call",
             Kind::Instant => "an instant (0 to 4294967295, in digits)",
             Kind::Note => "a note (pairs of hexadecimal digits, or -)",
             Kind::End => "the end of the line",
-        };
+        })
+    }
+}
+
+impl fmt::Display for Field {
+    fn fmt<W: fmt::Write>(&self, f: &mut fmt::Formatter<W>) -> fmt::Result {
+        let Field { place, kind } = self;
         write!(f, "expected {kind} at word {place}")
     }
 }

@@ -1,7 +1,9 @@
 // The words of a line, which stand apart by one blank.
-ghost use Rattle.std.specs.Prelude.{◌≡◌, [], ◌∷◌, MatchOption};
+ghost use Rattle.std.specs.Prelude.{◌≡◌};
 ghost use Rattle.journal.specs.Words.{left, Handed};
 ghost use Rattle.texts.specs.Pieces.{pieces};
+
+use texts::split_once;
 
 const BLANK: u8 = b' ';
 
@@ -35,16 +37,4 @@ impl<'a> Words<'a> {
             }
         }
     }
-}
-
-// What stands before the first `separator`, and what stands after it.
-fn split_once(text: &[u8], separator: u8) -> Option<(&[u8], &[u8])>
-    ensures { MatchOption result (pieces separator text.now ≡ text.now ∷ []) (λ p. pieces separator text.now ≡ p.0.now ∷ pieces separator p.1.now) }
-{
-    for (i, byte) in text.iter().enumerate() {
-        if *byte == separator {
-            return Some((&text[0..i], &text[i + 1..]));
-        }
-    }
-    None
 }
