@@ -21,8 +21,8 @@ fn run_of_number(v: u128, behind: usize, n: usize) -> u8
     ((v >> behind) % (1 << n)) as u8
 }
 
-// The last `width` binary digits of `v` into the bits of `out` from `start` on. Each turn fills what it
-// can of one byte.
+// The last `width` binary digits of `v` into the bits of `out` from `start` on. Each turn fills what it can of one byte;
+// as in reading, an iterator would hold the same three counters.
 fn lay(out: &mut [u8], start: u128, width: usize, v: u128)
     requires { (width ≤ 128) × (start + width ≤ 8 * length out.old) }
     ensures field { bits out.new ≡ laid (bits out.old) start (digits width v) }

@@ -56,6 +56,12 @@ impl<const W: usize> Set<W> {
         self.bits & other.bits == other.bits
     }
 
+    pub(super) fn is_empty(&self) -> bool
+        ensures { result ≡ nat_eq self.now.bits 0 }
+    {
+        self.bits == 0
+    }
+
     // Whether the set has every number below the width.
     pub(super) fn is_full(&self) -> bool
         requires { W < 128 }

@@ -10,7 +10,8 @@ use super::super::byte::run_of;
 use super::super::fault::BitFault;
 use super::BitReader;
 
-// The number that `width` bits spell, from the bit `start` on. Each turn takes what it can of one byte.
+// The number that `width` bits spell, from the bit `start` on. Each turn takes what it can of one byte. An iterator would
+// hold the same three counters, since a turn takes 1 to 8 bits.
 fn number_at(src: &[u8], start: u128, width: usize) -> u128
     requires { (width ≤ 128) × (start + width ≤ 8 * length src.now) }
     ensures { result ≡ number_from_digits 2 (take width (drop start (bits src.now))) }
@@ -43,8 +44,6 @@ impl<'a> BitReader<'a> {
         ensures bytes { bytes_of result ≡ src.now }
         ensures place { place_of result ≡ 0 }
     {
-        // The elements of a slice are known to be bytes once it is looked at.
-        let _empty = src.is_empty();
         BitReader { src, pos: 0 }
     }
 

@@ -24,17 +24,11 @@ fn write_originators<W: fmt::Write>(
 
 impl RuleParts {
     fn write_operations<W: fmt::Write>(&self, f: &mut fmt::Formatter<W>) -> fmt::Result {
-        let mut any = false;
-        for operation in Operation::ALL {
-            if self.has_operation(operation) {
-                if any {
-                    f.write_char(',')?;
-                }
-                any = true;
-                write!(f, "{operation}")?;
-            }
+        if self.operations.is_empty() {
+            return f.write_str("none");
         }
-        if any { Ok(()) } else { f.write_str("none") }
+        let named = Operation::ALL.iter().filter(|o| self.has_operation(**o));
+        f.write_joined(named, ",")
     }
 
     // The texts of the originators stand in the note.
