@@ -38,7 +38,7 @@ impl<L: MemberList> TokenLayer<L> {
     pub fn new(below: L) -> TokenLayer<L>
         ensures below { result.below ≡ below }
         ensures held { listed result.held ≡ [] }
-        ensures meaning { Alike (with_presented (listed result.held) (L.MemberList.pairs result.below)) (L.MemberList.pairs below) }
+        ensures meaning { Alike (⟦<TokenLayer<L> as MemberList>⟧.pairs result) (L.MemberList.pairs below) }
     {
         TokenLayer {
             below,
@@ -56,7 +56,7 @@ impl<L: MemberList> TokenLayer<L> {
     pub fn present(&mut self, identity: &Identity, standing: &Standing) -> Result<(), LayerFull>
         ensures below { self.new.below ≡ self.old.below }
         ensures held { Presented (text_of identity.now) (text_of standing.now) (listed self.old.held) result (listed self.new.held) }
-        ensures meaning { Gained (text_of identity.now) (text_of standing.now) (with_presented (listed self.old.held) (L.MemberList.pairs self.old.below)) result (with_presented (listed self.new.held) (L.MemberList.pairs self.new.below)) }
+        ensures meaning { Gained (text_of identity.now) (text_of standing.now) (⟦<TokenLayer<L> as MemberList>⟧.pairs self.old) result (⟦<TokenLayer<L> as MemberList>⟧.pairs self.new) }
     {
         if self.holds(identity, standing.as_bytes()) {
             return Ok(());
@@ -68,7 +68,7 @@ impl<L: MemberList> TokenLayer<L> {
     pub fn clear(&mut self)
         ensures below { self.new.below ≡ self.old.below }
         ensures held { listed self.new.held ≡ [] }
-        ensures meaning { Alike (with_presented (listed self.new.held) (L.MemberList.pairs self.new.below)) (L.MemberList.pairs self.old.below) }
+        ensures meaning { Alike (⟦<TokenLayer<L> as MemberList>⟧.pairs self.new) (L.MemberList.pairs self.old.below) }
     {
         self.held = Few::new();
     }
