@@ -50,11 +50,9 @@ impl Register {
         let policy = rule.name().policy;
         match target {
             Target::Number(number) => {
-                rule.side().same(Side::Privileges) & self.is_linked(number, policy)
+                rule.side().same(Side::Privileges) && self.is_linked(number, policy)
             }
-            Target::Policy(itself) => {
-                rule.side().same(Side::SelfPrivileges) & (policy == itself)
-            }
+            Target::Policy(itself) => { rule.side().same(Side::SelfPrivileges) && policy == itself }
         }
     }
 
