@@ -26,7 +26,7 @@ impl MemberRow {
     pub fn is(&self, identity: &[u8], standing: &[u8]) -> bool
         ensures { result ≡ row_is identity.now standing.now self.now }
     {
-        self.identity.is(identity) & self.standing.is(standing)
+        self.identity.is(identity) && self.standing.is(standing)
     }
 }
 

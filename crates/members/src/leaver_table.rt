@@ -8,6 +8,7 @@ use texts::Identity;
 
 const MAX_LEAVERS: usize = 16;
 
+// A struct, since a single entry is lent and clears itself.
 #[derive(Clone, Copy)]
 pub(super) struct Leaver {
     identity: Option<RowText>,

@@ -29,7 +29,7 @@ impl<L: MemberList> LeaversLayer<L> {
     pub fn new(below: L) -> LeaversLayer<L>
         ensures below { result.below ≡ below }
         ensures noted { result.table.entries ≡ replicate 16 no_leaver }
-        ensures meaning { Alike (without_noted result.table.entries (L.MemberList.pairs result.below)) (L.MemberList.pairs below) }
+        ensures meaning { Alike (⟦<LeaversLayer<L> as MemberList>⟧.pairs result) (L.MemberList.pairs below) }
     {
         LeaversLayer {
             below,
@@ -47,7 +47,7 @@ impl<L: MemberList> LeaversLayer<L> {
     pub fn note(&mut self, identity: &Identity) -> Result<(), LayerFull>
         ensures below { self.new.below ≡ self.old.below }
         ensures noted { Noted (text_of identity.now) self.old.table.entries result self.new.table.entries }
-        ensures meaning { Lost (text_of identity.now) (without_noted self.old.table.entries (L.MemberList.pairs self.old.below)) result (without_noted self.new.table.entries (L.MemberList.pairs self.new.below)) }
+        ensures meaning { Lost (text_of identity.now) (⟦<LeaversLayer<L> as MemberList>⟧.pairs self.old) result (⟦<LeaversLayer<L> as MemberList>⟧.pairs self.new) }
     {
         if self.table.has(identity) {
             return Ok(());
@@ -61,7 +61,7 @@ impl<L: MemberList> LeaversLayer<L> {
     pub fn readmit(&mut self, identity: &Identity)
         ensures below { self.new.below ≡ self.old.below }
         ensures noted { Readmitted (text_of identity.now) self.old.table.entries self.new.table.entries }
-        ensures meaning { Regained (text_of identity.now) (L.MemberList.pairs self.old.below) (without_noted self.old.table.entries (L.MemberList.pairs self.old.below)) (without_noted self.new.table.entries (L.MemberList.pairs self.new.below)) }
+        ensures meaning { Regained (text_of identity.now) (L.MemberList.pairs self.old.below) (⟦<LeaversLayer<L> as MemberList>⟧.pairs self.old) (⟦<LeaversLayer<L> as MemberList>⟧.pairs self.new) }
     {
         if let Some(k) = self.table.find(identity) {
             self.table.clear(k);

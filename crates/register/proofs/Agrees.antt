@@ -1,6 +1,7 @@
 -- The tables and the book agree after each call. Assumes nothing.
 use Rattle.std.proofs.Common.{◌≡◌, ℕ, zero, suc, ◌+◌, ◌<◌, ◌≤◌, Bool, true, false, cond, not, ◌&&◌, eqb, ltb, List, ◌∷◌, length, get_or, set, replicate, is_some, Some, None, Ok, Err, count_by, Option, Result, sym, refl, ap, ◌∙◌, subst, ⊎_elim, arith, length-set, length-take, get_or-set_other, get_or-take, get_or-set_same}
 use mathlib.Core.Bool.{false≢true}
+use Rattle.std.proofs.Math.Bool.{and_comm}
 use lib.Seq.{take-set-lt}
 use Rattle.std.proofs.lemmas.Bool.{and_parts, cases_Bool, cases_eq, eqb-true, eq-eqb, ne_eqb, ltb-true, ltb-false, lt-ltb}
 use Rattle.bits.specs.declared.fault.Report.{Report}
@@ -54,12 +55,6 @@ open_agrees o t h =
       wide = λ k lt. ap (λ (x : TargetRow). length x.linked) (h.targets_free k lt);
       single = λ p n. omega arith;
     }
-
-and_comm : (a b : Bool) → (a && b) ≡ (b && a)
-and_comm true true = refl
-and_comm true false = refl
-and_comm false true = refl
-and_comm false false = refl
 
 of_one : (x y : Bool) → y ≡ true → (◌≡◌ {A = ℕ} (cond (x && y) 1 0) (cond x 1 0)) × (◌≡◌ {A = ℕ} (cond (y && not x) 1 0 + cond x 1 0) 1)
 of_one true true h = (refl, refl)

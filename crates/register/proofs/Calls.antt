@@ -25,6 +25,12 @@ row_at t i d h =
     let inside : i < length t.rows = omega (arith, length-take 256 t.rows) in
     (h, get_or-take 256 t.rows i d below ∙ get_or_default t.rows i d _ inside)
 
+-- what is found among the used rows is within the table
+pub found_inside : (t : Tables) (f : RuleRow → Bool) (i : ℕ) → position f (used_rows t) ≡ Some i → i < length t.rows
+found_inside t f i e =
+    let found = position-Some f (used_rows t) i (record { held = None }) e in
+    omega (arith, found.0, length-take 256 t.rows)
+
 module _ (t : Tables) (p n : ℕ) where
   abbrev named : RuleRow → Bool
   named = hits (is_named p n)

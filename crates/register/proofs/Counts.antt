@@ -1,6 +1,7 @@
 -- Counting. Assumes nothing.
-use Rattle.std.proofs.Common.{◌≡◌, ℕ, ◌+◌, ◌≤◌, Bool, true, false, cond, not, ◌&&◌, List, [], ◌∷◌, count_by, filter, refl, ap, ◌∙◌, arith}
+use Rattle.std.proofs.Common.{◌≡◌, ℕ, ◌+◌, ◌≤◌, Bool, true, false, cond, not, ◌&&◌, List, [], ◌∷◌, count_by, filter, sym, refl, ap, ◌∙◌, arith}
 use mathlib.Core.Bool.{false≢true}
+use Rattle.std.proofs.Math.Bool.{and-true, and-false}
 use Rattle.std.proofs.lemmas.List.Sums.{sum_by-cons}
 
 pub cond_mono : (a b : Bool) → (a ≡ true → b ≡ true) → cond a 1 0 ≤ cond b 1 0
@@ -13,14 +14,6 @@ split_one : (a k : Bool) → ◌≡◌ {A = ℕ} (cond a 1 0) (cond (a && k) 1 0
 split_one true true = refl
 split_one true false = refl
 split_one false k = refl
-
-and_true : (a : Bool) → a ≡ (a && true)
-and_true true = refl
-and_true false = refl
-
-and_false : (a : Bool) → (a && false) ≡ false
-and_false true = refl
-and_false false = refl
 
 module _ {X : Type 0} where
   pub count_cons : (f : X → Bool) (x : X) (xs : List X) → count_by f (x ∷ xs) ≡ cond (f x) 1 0 + count_by f xs
@@ -39,8 +32,8 @@ module _ {X : Type 0} where
   count_split f k (x ∷ xs) = omega (arith, count_cons f x xs, count_cons (λ x. f x && k x) x xs, count_cons (λ x. f x && not (k x)) x xs, split_one (f x) (k x), count_split f k xs)
 
   kept_one : (f : X → Bool) (b : Bool) (x : X) (xs : List X) → count_by f (cond b (x ∷ xs) xs) ≡ cond (f x && b) 1 0 + count_by f xs
-  kept_one f true x xs = count_cons f x xs ∙ ap (λ c. cond c 1 0 + count_by f xs) (and_true (f x))
-  kept_one f false x xs = omega (arith, ap (λ c. cond {A = ℕ} c 1 0) (and_false (f x)))
+  kept_one f true x xs = count_cons f x xs ∙ ap (λ c. cond c 1 0 + count_by f xs) (sym (and-true (f x)))
+  kept_one f false x xs = omega (arith, ap (λ c. cond {A = ℕ} c 1 0) (and-false (f x)))
 
   pub count_kept : (f k : X → Bool) (xs : List X) → count_by f (filter k xs) ≡ count_by (λ x. f x && k x) xs
   count_kept f k [] = refl

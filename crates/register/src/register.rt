@@ -30,6 +30,6 @@ impl Register {
         ensures { result.now ≡ used_rows (tables self.now) }
     {
         let n = self.rows.len().min(USED_ROWS);
-        &self.rows.as_slice()[0..n]
+        &self.rows[0..n]
     }
 }

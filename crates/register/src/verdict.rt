@@ -6,7 +6,7 @@ use super::rule_name::RuleName;
 
 #[derive(Clone, Copy, PartialEq, Eq, Debug)]
 pub enum Verdict {
-    // The lowest admitting rule, and how many admit.
+    // The lowest admitting rule, and how many admit. Callers match on the numbers one by one.
     Permit {
         policy: u32,
         number: u32,

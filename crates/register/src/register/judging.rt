@@ -50,11 +50,9 @@ impl Register {
         let policy = rule.name().policy;
         match target {
             Target::Number(number) => {
-                (rule.side() == Side::Privileges) & self.is_linked(number, policy)
+                rule.side() == Side::Privileges && self.is_linked(number, policy)
             }
-            Target::Policy(itself) => {
-                (rule.side() == Side::SelfPrivileges) & (policy == itself)
-            }
+            Target::Policy(itself) => { rule.side() == Side::SelfPrivileges && policy == itself }
         }
     }
 

@@ -1,9 +1,8 @@
-use Rattle.std.proofs.Common.{None, Ok, vec_items, sym, ap, ◌∙◌, arith, length-take}
-use Rattle.std.proofs.lemmas.List.Quantifiers.{position-Some}
+use Rattle.std.proofs.Common.{Ok, sym, ap, ◌∙◌, arith}
 use Rattle.std.proofs.lemmas.Result.{err_from_is_err_and}
 use Rattle.notes.specs.Rules.{rule_lawful}
-use Rattle.register.specs.Tables.{tables, used_rows, Holding}
-use Rattle.register.proofs.Calls.{cause_is, add_taken, add_full, add_placed}
+use Rattle.register.specs.Tables.{tables, Holding}
+use Rattle.register.proofs.Calls.{cause_is, found_inside, add_taken, add_full, add_placed}
 use Rattle.register.proofs.register.Register.add.Goals as goal
 
 pub returns-then-has_rule : goal.returns-then-has_rule
@@ -19,9 +18,7 @@ returns-in_err-i c =
 
 pub index_mut-requires : goal.index_mut-requires
 index_mut-requires c =
-    let rows = used_rows (tables c.args.self.now) in
-    let found = position-Some _ rows _ (record { held = None }) (sym c.find_free.ensures ∙ c.in_ok-i.ensures.ok_part) in
-    omega (arith, found.0, length-take 256 (vec_items c.args.self.now.rows), c.args.self.now.rows.ok.0)
+    omega (arith, found_inside (tables c.args.self.now) _ _ (sym c.find_free.ensures ∙ c.in_ok-i.ensures.ok_part), c.args.self.now.rows.ok.0)
 
 pub returns : goal.returns
 returns c =

@@ -6,4 +6,4 @@ pub returns : goal.returns
 returns c =
     let rows = c.args.self.now.rows in
     let size : c.min-n.result - 0 ≡ min 256 (length (vec_items rows)) = omega (arith, c.min-n.ensures, c.len.ensures, rows.ok.0) in
-    ap (take (c.min-n.result - 0)) c.as_slice.ensures.value ∙ ap (λ n. take n (vec_items rows)) size ∙ take_min 256 (vec_items rows)
+    ap (take (c.min-n.result - 0)) c.deref.ensures.value ∙ ap (λ n. take n (vec_items rows)) size ∙ take_min 256 (vec_items rows)

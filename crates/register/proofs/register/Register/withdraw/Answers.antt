@@ -1,9 +1,8 @@
-use Rattle.std.proofs.Common.{None, vec_items, sym, subst, ◌∙◌, arith, length-take}
-use Rattle.std.proofs.lemmas.List.Quantifiers.{position-Some}
+use Rattle.std.proofs.Common.{sym, subst, ◌∙◌, arith}
 use Rattle.std.proofs.lemmas.Result.{err_from_is_err_and}
 use Rattle.register.specs.Answers.{withdraw, accepted}
-use Rattle.register.specs.Tables.{tables, used_rows, with_row, Served}
-use Rattle.register.proofs.Calls.{cause_is, withdraw_missing, withdraw_freed}
+use Rattle.register.specs.Tables.{tables, with_row, Served}
+use Rattle.register.proofs.Calls.{cause_is, found_inside, withdraw_missing, withdraw_freed}
 use Rattle.register.proofs.register.Register.withdraw.Goals as goal
 
 pub returns-in_err-i : goal.returns-in_err-i
@@ -15,9 +14,7 @@ returns-in_err-i c =
 
 pub index_mut-requires : goal.index_mut-requires
 index_mut-requires c =
-    let rows = used_rows (tables c.args.self.now) in
-    let found = position-Some _ rows _ (record { held = None }) (sym c.find_rule.ensures ∙ c.in_ok-i.ensures.ok_part) in
-    omega (arith, found.0, length-take 256 (vec_items c.args.self.now.rows), c.args.self.now.rows.ok.0)
+    omega (arith, found_inside (tables c.args.self.now) _ _ (sym c.find_rule.ensures ∙ c.in_ok-i.ensures.ok_part), c.args.self.now.rows.ok.0)
 
 pub returns : goal.returns
 returns c =
