@@ -24,12 +24,3 @@ loop-b-preserved c =
           ∙ ap (laid old start) (sym (bits_more text i (omega arith))),
       λ k h. c.lay.ensures.behind k (omega arith) ∙ c.loop-b.invariant.2 k h,
     )
-
-pub returns : goal.returns
-returns c =
-    let text = c.args.text.now in
-    let done : c.loop-b.b-index ≡ length text = omega arith in
-    record {
-      field = c.loop-b.invariant.1 ∙ ap (λ l. laid (bits c.args.out.now) c.args.start (bits l)) (ap (λ k. take k text) done ∙ take-length text);
-      behind = c.loop-b.invariant.2;
-    }

@@ -22,8 +22,3 @@ loop-x-preserved g c =
     subst (Wrote c.args.w.now c.write_item.new.w)
     (sym (joined_next (λ x. g.I.Item.form (g.I.Item.meant c.args.note.now x)) c.args.items.now c.loop-x.x-index c.x-item.result c.loop-x-test.true c.x-item.is))
     (wrote_then (omega arith) c.loop-x.invariant c.write_item.ensures)
-
-pub returns : goal.returns
-returns g c =
-    subst (Wrote c.args.w.now c.loop-x.w)
-    (ap (flat_map (λ x. g.I.Item.form (g.I.Item.meant c.args.note.now x))) (take_all c.loop-x.x-index c.args.items.now c.loop-x-test.false)) c.loop-x.invariant

@@ -12,48 +12,6 @@ use Rattle.notes.proofs.context.ContextWritable.write.Goals as goal
 pub write_counts-requires : goal.write_counts-requires
 write_counts-requires c = omega (arith, context_long (context_of c.args.self.now))
 
-pub write_list-requires : goal.write_list-requires
-write_list-requires c =
-    omega (
-      arith,
-      context_long (context_of c.args.self.now),
-      counts_long (context_of c.args.self.now),
-      c.write_counts.ensures.moved,
-      c.write_counts.ensures.size,
-      ap (λ l. length (flat_map window_form l)) c.as_slice.ensures,
-    )
-
-pub write_list-requires-2 : goal.write_list-requires-2
-write_list-requires-2 c =
-    omega (
-      arith,
-      context_long (context_of c.args.self.now),
-      counts_long (context_of c.args.self.now),
-      c.write_counts.ensures.moved,
-      c.write_counts.ensures.size,
-      ap (λ l. length (flat_map window_form l)) c.as_slice.ensures,
-      c.write_list.ensures.moved,
-      c.write_list.ensures.size,
-      ap (λ l. length (flat_map block_form l)) c.as_slice-2.ensures,
-    )
-
-pub write_list-requires-3 : goal.write_list-requires-3
-write_list-requires-3 c =
-    omega (
-      arith,
-      context_long (context_of c.args.self.now),
-      counts_long (context_of c.args.self.now),
-      c.write_counts.ensures.moved,
-      c.write_counts.ensures.size,
-      ap (λ l. length (flat_map window_form l)) c.as_slice.ensures,
-      c.write_list.ensures.moved,
-      c.write_list.ensures.size,
-      ap (λ l. length (flat_map block_form l)) c.as_slice-2.ensures,
-      c.write_list-2.ensures.moved,
-      c.write_list-2.ensures.size,
-      ap (λ l. length (flat_map country_form l)) c.as_slice-3.ensures,
-    )
-
 pub returns : goal.returns
 returns c =
     subst (Wrote c.args.w.now c.write_list-3.new.w)

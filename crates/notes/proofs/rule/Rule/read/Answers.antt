@@ -23,8 +23,3 @@ invariant_of-result c =
       lawful = ap (λ l. rule_lawful (rule_of l parts)) same ∙ facts.0;
       same = ap (λ l. note_of (rule_of l parts)) same ∙ facts.1 ∙ sym same;
     }
-
-pub returns : goal.returns
-returns c =
-    let same = (rw c.unwrap-note.ensures at c.of.ensures).1 in
-    (same, c.in_ok-parts.ensures ∙ (λ i. Ok (rule_of (sym same i) c.in_ok-parts.parts)))

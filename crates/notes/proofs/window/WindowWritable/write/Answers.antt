@@ -3,12 +3,5 @@ use Rattle.notes.proofs.Writings.{wrote_then}
 use Rattle.notes.specs.WindowsLemmas.{clock_long, date_long, window_long}
 use Rattle.notes.proofs.window.WindowWritable.write.Goals as goal
 
-pub write-requires : goal.write-requires
-write-requires c = omega (arith, window_long c.args.self.now, clock_long c.args.self.now.clock)
-
-pub write-requires-2 : goal.write-requires-2
-write-requires-2 c =
-    omega (arith, window_long c.args.self.now, clock_long c.args.self.now.clock, date_long c.args.self.now.date, c.write.ensures.moved, c.write.ensures.size)
-
 pub returns : goal.returns
 returns c = wrote_then (omega (arith, window_long c.args.self.now)) c.write.ensures c.write-2.ensures
