@@ -1,16 +1,16 @@
 -- A piece read digit by digit. Assumes nothing.
 use Rattle.std.proofs.Common.{◌≡◌, ℕ, ◌+◌, ◌*◌, ◌^◌, ◌<◌, ◌≤◌, false, ◌&&◌, ltb, leb, List, [], ◌∷◌, length, Some, None, sym, ap, ◌∙◌, mul-le-mul_left, pow-suc, add-one, arith}
+use Rattle.std.specs.List.{list_all}
 use native.Mathlib.Nat.{pow-le-pow_right}
 use Rattle.std.specs.Str.Parse.{digits_value, digits_value_after}
 use Rattle.std.specs.Char.{digit_value}
 use Rattle.std.proofs.lemmas.Bool.{lt-ltb, le-ltb, le-leb, lt-leb, and_from, and_right, and_left, cond-true, cond-false}
-use Rattle.texts.specs.Lists.{each}
 use Rattle.addresses.specs.Numerals.{digit, numeral, numeral_of}
 
 -- what is left of the piece, after i digits that write n, decides what the piece writes
 pub record Sofar (base : ℕ) (piece rest : List ℕ) (n i : ℕ) : Type 0 where
   pub writes : digits_value_after base n rest ≡ digits_value base piece
-  pub digits : each (digit base) rest ≡ each (digit base) piece
+  pub digits : list_all (digit base) rest ≡ list_all (digit base) piece
   pub small : n < 16 ^ i
 
 pub next_small : (base n i d : ℕ) → base ≤ 16 → n < 16 ^ i → d < base → n * base + d < 16 ^ (i + 1)
@@ -33,7 +33,7 @@ pub more : (base : ℕ) (piece : List ℕ) (b : ℕ) (rest : List ℕ) (n i : �
 more base piece b rest n i s few under =
     record {
       writes = s.writes;
-      digits = sym (ap (λ t. t && each (digit base) rest) (lt-ltb (digit_value b) base under)) ∙ s.digits;
+      digits = sym (ap (λ t. t && list_all (digit base) rest) (lt-ltb (digit_value b) base under)) ∙ s.digits;
       small = next_small base n i (digit_value b) few s.small under;
     }
 
@@ -52,8 +52,8 @@ pub none_other : (base most : ℕ) (piece : List ℕ) (b : ℕ) (rest : List ℕ
 unfolding numeral_of
 none_other base most piece b rest n i s other =
     let no : ltb (digit_value b) base ≡ false = le-ltb (digit_value b) base (omega (arith, other)) in
-    let some-other : each (digit base) piece ≡ false = sym s.digits ∙ and_left (ltb (digit_value b) base) (each (digit base) rest) no in
-    let short-other = and_right (leb (length piece) most) (each (digit base) piece) some-other in
+    let some-other : list_all (digit base) piece ≡ false = sym s.digits ∙ and_left (ltb (digit_value b) base) (list_all (digit base) rest) no in
+    let short-other = and_right (leb (length piece) most) (list_all (digit base) piece) some-other in
     sym (cond-false (numeral base most piece) _ _ (and_right (ltb 0 (length piece)) _ short-other))
 
 pub all_read : (base most : ℕ) (piece : List ℕ) (n i : ℕ) → Sofar base piece [] n i → 0 < length piece → length piece ≤ most → Some n ≡ numeral_of base most piece

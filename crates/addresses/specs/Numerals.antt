@@ -1,8 +1,8 @@
 -- Numbers of a few digits. Assumes nothing.
 use Rattle.std.specs.Prelude.{ℕ, Bool, cond, ◌&&◌, List, length, Some, None, Option, ◌==◌, nat_le, nat_lt, slice_index}
+use Rattle.std.specs.List.{list_all}
 use Rattle.std.specs.Str.Parse.{digits_value}
 use Rattle.std.specs.Char.{digit_value}
-use Rattle.texts.specs.Lists.{each}
 
 -- a digit of the base, a letter in either case
 abbrev pub digit : ℕ → ℕ → Bool
@@ -10,7 +10,7 @@ digit base b = nat_lt (digit_value b) base
 
 -- one digit of the base or more, at most so many, and nothing else
 abbrev pub numeral : ℕ → ℕ → List ℕ → Bool
-numeral base most piece = nat_lt 0 (length piece) && (nat_le (length piece) most && each (digit base) piece)
+numeral base most piece = nat_lt 0 (length piece) && (nat_le (length piece) most && list_all (digit base) piece)
 
 -- the number that a piece writes in the base, with at most so many digits
 unfoldable pub numeral_of : ℕ → ℕ → List ℕ → Option ℕ

@@ -1,7 +1,7 @@
 -- Two misreadings that are shut out. Assumes nothing.
 use Rattle.std.proofs.Common.{◌≡◌, ℕ, suc, ◌-◌, ◌<◌, Bool, true, List, [], ◌∷◌, length, get_or, Some, ⊎_elim, arith}
+use Rattle.std.specs.List.{list_any}
 use borrow.Author.Tests.{clash}
-use Rattle.texts.specs.Lists.{some}
 use Rattle.texts.proofs.Bools.{both_true, or_true}
 use Rattle.notes.specs.Blocks.{block_admits}
 use Rattle.notes.specs.Constraints.{list_admits_option}
@@ -19,7 +19,7 @@ day_and_weekday w t a =
     (days.0, (both_true (member 7 w.date.weekdays.bits t.weekday) (member 100 w.date.years.bits (t.year - 2000)) months.1).0)
 
 -- the one that passes the test
-one_passes : {X : Type 0} (p : X → Bool) (xs : List X) → some p xs ≡ true → (i : ℕ) × (i < length xs) × ((d : X) → p (get_or xs i d) ≡ true)
+one_passes : {X : Type 0} (p : X → Bool) (xs : List X) → list_any p xs ≡ true → (i : ℕ) × (i < length xs) × ((d : X) → p (get_or xs i d) ≡ true)
 one_passes p [] e = absurd (clash e)
 one_passes p (x ∷ xs) e =
     ⊎_elim (λ h. (0, omega arith, λ d. h)) (λ h. let z = one_passes p xs h in (suc z.0, omega (arith, z.1), z.2)) (or_true (p x) _ e)

@@ -4,8 +4,7 @@ use borrow.Author.Tests.{clash}
 use Rattle.std.proofs.ByRecursion.{All-push}
 use Rattle.calendar.specs.Civil.{civil_of}
 use Rattle.texts.specs.Covering.{short}
-use Rattle.std.specs.List.{list_any}
-use Rattle.texts.specs.Lists.{each}
+use Rattle.std.specs.List.{list_any, list_all}
 use Rattle.texts.specs.Matching.{in_domain}
 use Rattle.texts.specs.Texts.{full, domain}
 use Rattle.texts.proofs.Bools.{both_true, and_true, or_true, or_left, or_right}
@@ -62,21 +61,21 @@ module _ (home : List ℕ) (few more : Pairs) (lacks : LacksNone few more) (iden
 
 pub entries_sound : EntriesSound
 entries_sound home o p w c few more lacks identity m =
-    let lawful = both_true (text_lawful o.kind o.text) (each is_byte o.text) (both_true (length_lawful o.kind (length o.text)) _ w).1 in
+    let lawful = both_true (text_lawful o.kind o.text) (list_all is_byte o.text) (both_true (length_lawful o.kind (length o.text)) _ w).1 in
     kinds_sound home few more lacks identity o.kind p.kind o.text p.text lawful.0 c m
 
 module _ (home : List ℕ) (few more : Pairs) (lacks : LacksNone few more) (identity : List ℕ) where
   covers_one :
-      (os : List OriginatorValue) (p : OriginatorValue) → each originator_lawful os ≡ true → list_any (λ o. originator_covers home o p) os ≡ true
+      (os : List OriginatorValue) (p : OriginatorValue) → list_all originator_lawful os ≡ true → list_any (λ o. originator_covers home o p) os ≡ true
       → originator_matches home few identity p ≡ true → list_any (originator_matches home more identity) os ≡ true
   covers_one [] p w c m = absurd (clash c)
   covers_one (o ∷ os) p w c m =
-      let lawful = both_true (originator_lawful o) (each originator_lawful os) w in
+      let lawful = both_true (originator_lawful o) (list_all originator_lawful os) w in
       ⊎_elim (λ h. or_left _ _ (entries_sound home o p lawful.0 h few more lacks identity m)) (λ h. or_right _ _ (covers_one os p lawful.1 h m))
       (or_true (originator_covers home o p) _ c)
 
   covers_each :
-      (os ps : List OriginatorValue) → each originator_lawful os ≡ true → originators_cover home os ps ≡ true
+      (os ps : List OriginatorValue) → list_all originator_lawful os ≡ true → originators_cover home os ps ≡ true
       → list_any (originator_matches home few identity) ps ≡ true → list_any (originator_matches home more identity) os ≡ true
   covers_each os [] w c m = absurd (clash m)
   covers_each os (p ∷ ps) w c m =
@@ -106,7 +105,7 @@ unfolding rule_lawful rule_covers rule_admits
 rules_sound home r s w c few more lacks q a =
     let w1 = both_true (ltb r.operations 64) _ w in
     let w2 = both_true (counts_lawful r) _ w1.1 in
-    let w3 = both_true (each originator_lawful r.originators) _ w2.1 in
+    let w3 = both_true (list_all originator_lawful r.originators) _ w2.1 in
     let c1 = both_true (same_side r.side s.side) _ c in
     let c2 = both_true (not r.authenticated || s.authenticated) _ c1.1 in
     let c3 = both_true (contains r.operations s.operations) _ c2.1 in

@@ -1,17 +1,17 @@
 -- What may stand behind the last field. Assumes nothing.
 use Rattle.std.proofs.Common.{◌≡◌, ℕ, ◌+◌, ◌-◌, ◌*◌, ◌<◌, ◌≤◌, Bool, true, false, ◌&&◌, eqb, ltb, List, [], ◌∷◌, length, take, drop, Ok, Err, sym, refl, ap, ◌∙◌, arith, length-drop, le-ltb, lt-ltb, eq-eqb, eqb-true}
+use Rattle.std.specs.List.{list_all}
 use Rattle.std.specs.Int.Digits.{number_from_digits, number_from_digits_after}
 use Rattle.std.proofs.lemmas.Int.Digits.{number_after_ge}
 use Rattle.std.proofs.lemmas.List.{take_all}
 use Rattle.bits.specs.Codec.{field}
 use Rattle.bits.specs.declared.fault.Report.{Report}
 use Rattle.bits.proofs.Codecs.{field_ok}
-use Rattle.texts.specs.Lists.{each}
 use Rattle.notes.specs.Rules.{padded}
 use Rattle.texts.proofs.Bools.{both_true, and_true}
 
 abbrev zeros : List ℕ → Bool
-zeros ds = each (λ d. eqb d 0) ds
+zeros ds = list_all (λ d. eqb d 0) ds
 
 number_zeros : (ds : List ℕ) → zeros ds ≡ true → number_from_digits 2 ds ≡ 0
 number_zeros [] e = refl

@@ -1,9 +1,10 @@
 -- Lists of constraints. Assumes nothing.
 use Rattle.std.specs.Prelude.{◌≡◌, Bool, true, false, not, ◌&&◌, ◌||◌, List, [], ◌∷◌, map, Some, None, Option}
+use Rattle.std.specs.List.{list_any, list_all}
 use Rattle.std.proofs.Math.Path.{refl}
 use Rattle.std.proofs.Common.{sym, ap, ◌∙◌, ⊎_elim}
 use borrow.Author.Tests.{clash}
-use Rattle.texts.specs.Lists.{some, each, none}
+use Rattle.texts.specs.Lists.{none}
 use Rattle.notes.specs.Constraints.{offered, list_admits, list_admits_option, list_covers}
 use Rattle.texts.proofs.Bools.{both_true, or_true, or_left, or_right}
 
@@ -18,12 +19,12 @@ offered_admits admits (x ∷ xs) false v = refl
 
 module _ {X V : Type 0} (admits : X → V → Bool) (covers : X → X → Bool)
     (sound : (a b : X) (v : V) → covers a b ≡ true → admits b v ≡ true → admits a v ≡ true) where
-  pub some_sound : (xs : List X) (y : X) (v : V) → some (λ x. covers x y) xs ≡ true → admits y v ≡ true → some (λ x. admits x v) xs ≡ true
+  pub some_sound : (xs : List X) (y : X) (v : V) → list_any (λ x. covers x y) xs ≡ true → admits y v ≡ true → list_any (λ x. admits x v) xs ≡ true
   some_sound [] y v e a = e
   some_sound (x ∷ xs) y v e a =
       ⊎_elim (λ c. or_left _ _ (sound x y v c a)) (λ c. or_right _ _ (some_sound xs y v c a)) (or_true _ _ e)
 
-  pub each_sound : (xs ys : List X) (v : V) → each (λ y. some (λ x. covers x y) xs) ys ≡ true → some (λ y. admits y v) ys ≡ true → some (λ x. admits x v) xs ≡ true
+  pub each_sound : (xs ys : List X) (v : V) → list_all (λ y. list_any (λ x. covers x y) xs) ys ≡ true → list_any (λ y. admits y v) ys ≡ true → list_any (λ x. admits x v) xs ≡ true
   each_sound xs [] v e a = absurd (clash a)
   each_sound xs (y ∷ ys) v e a =
       let h = both_true _ _ e in ⊎_elim (λ c. some_sound xs y v h.0 c) (λ c. each_sound xs ys v h.1 c) (or_true _ _ a)
@@ -41,11 +42,11 @@ module _ {X V : Type 0} (admits : X → V → Bool) (covers : X → X → Bool)
       sym (offered_admits admits xs there v) ∙ list_sound_option xs ys (offered there v) c (offered_admits admits ys there v ∙ a)
 
 -- lists of what items stand for
-pub some_map : {X Y : Type 0} (p : Y → Bool) (f : X → Y) (xs : List X) → some p (map f xs) ≡ some (λ x. p (f x)) xs
+pub some_map : {X Y : Type 0} (p : Y → Bool) (f : X → Y) (xs : List X) → list_any p (map f xs) ≡ list_any (λ x. p (f x)) xs
 some_map p f [] = refl
 some_map p f (x ∷ xs) = ap (λ b. p (f x) || b) (some_map p f xs)
 
-pub each_map : {X Y : Type 0} (p : Y → Bool) (f : X → Y) (xs : List X) → each p (map f xs) ≡ each (λ x. p (f x)) xs
+pub each_map : {X Y : Type 0} (p : Y → Bool) (f : X → Y) (xs : List X) → list_all p (map f xs) ≡ list_all (λ x. p (f x)) xs
 each_map p f [] = refl
 each_map p f (x ∷ xs) = ap (λ b. p (f x) && b) (each_map p f xs)
 
@@ -61,7 +62,7 @@ list_admits_option_map admits f xs (Some v) = λ i. none_map f xs i || some_map 
 
 pub each_some_map :
     {X Y : Type 0} (covers : Y → Y → Bool) (f g : X → Y) (xs ys : List X)
-    → each (λ y. some (λ x. covers x y) (map f xs)) (map g ys) ≡ each (λ y. some (λ x. covers (f x) (g y)) xs) ys
+    → list_all (λ y. list_any (λ x. covers x y) (map f xs)) (map g ys) ≡ list_all (λ y. list_any (λ x. covers (f x) (g y)) xs) ys
 each_some_map covers f g xs [] = refl
 each_some_map covers f g xs (y ∷ ys) = λ i. some_map (λ x. covers x (g y)) f xs i && each_some_map covers f g xs ys i
 

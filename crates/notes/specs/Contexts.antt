@@ -1,9 +1,8 @@
 -- Contexts. Assumes nothing.
 use Rattle.std.specs.Prelude.{ℕ, Bool, ◌&&◌, List, ◌++◌, length, Some, Option, nat_le}
-use Rattle.std.specs.List.{flat_map}
+use Rattle.std.specs.List.{flat_map, list_all}
 use Rattle.bits.specs.Digits.{digits}
 use Rattle.bits.specs.Codec.{Reads, field}
-use Rattle.texts.specs.Lists.{each}
 use Rattle.texts.specs.Few.{listed}
 use Rattle.notes.specs.Readings.{guard, seq, made, times}
 use Rattle.calendar.specs.declared.civil.CivilTime.{CivilTime}
@@ -40,7 +39,7 @@ counts_lawful c = within 0 4 (length c.windows) && (within 0 4 (length c.blocks)
 
 -- no list is too long, and every item is lawful
 abbrev pub context_lawful : ContextValue → Bool
-context_lawful c = counts_lawful c && (each window_lawful c.windows && (each block_lawful c.blocks && each country_lawful c.countries))
+context_lawful c = counts_lawful c && (list_all window_lawful c.windows && (list_all block_lawful c.blocks && list_all country_lawful c.countries))
 
 abbrev pub counts_form : ContextValue → List ℕ
 counts_form c = digits 3 (length c.windows) ++ (digits 3 (length c.blocks) ++ digits 2 (length c.countries))

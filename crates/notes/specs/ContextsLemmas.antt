@@ -1,12 +1,11 @@
 -- Contexts read back. Assumes nothing.
 use Rattle.std.specs.Prelude.{◌≡◌, ℕ, ◌+◌, ◌^◌, ◌<◌, ◌≤◌, Bool, true, ◌&&◌, List, [], ◌∷◌, ◌++◌, length, nat_le, refl}
 use Rattle.std.proofs.Common.{◌∙◌, arith, length-append, leb-true}
-use Rattle.std.specs.List.{AllByRecursion, flat_map}
+use Rattle.std.specs.List.{AllByRecursion, flat_map, list_all}
 use Rattle.bits.specs.Digits.{digits}
 use Rattle.bits.specs.Codec.{Lawful}
 use Rattle.bits.proofs.DigitLaws.{length_digits}
 use Rattle.bits.proofs.Codecs.{lawful_field}
-use Rattle.texts.specs.Lists.{each}
 use Rattle.notes.specs.Windows.{window_lawful, window_form}
 use Rattle.notes.specs.Blocks.{block_lawful, block_form}
 use Rattle.notes.specs.Countries.{country_lawful, country_form}
@@ -18,13 +17,13 @@ use Rattle.notes.specs.WindowsLemmas.{lawful_window}
 use Rattle.notes.specs.BlocksLemmas.{lawful_block}
 use Rattle.notes.specs.CountriesLemmas.{lawful_country}
 
-pub every_each : {X : Type 0} (p : X → Bool) (xs : List X) → each p xs ≡ true → AllByRecursion (λ x. p x ≡ true) xs
+pub every_each : {X : Type 0} (p : X → Bool) (xs : List X) → list_all p xs ≡ true → AllByRecursion (λ x. p x ≡ true) xs
 every_each p [] e = tt
-every_each p (x ∷ xs) e = let b = both_true (p x) (each p xs) e in (b.0, every_each p xs b.1)
+every_each p (x ∷ xs) e = let b = both_true (p x) (list_all p xs) e in (b.0, every_each p xs b.1)
 
-pub each_every : {X : Type 0} (p : X → Bool) (xs : List X) → AllByRecursion (λ x. p x ≡ true) xs → each p xs ≡ true
+pub each_every : {X : Type 0} (p : X → Bool) (xs : List X) → AllByRecursion (λ x. p x ≡ true) xs → list_all p xs ≡ true
 each_every p [] h = refl
-each_every p (x ∷ xs) h = and_true (p x) (each p xs) h.0 (each_every p xs h.1)
+each_every p (x ∷ xs) h = and_true (p x) (list_all p xs) h.0 (each_every p xs h.1)
 
 -- a count whose limit fits its width
 pub lawful_count : (w low high : ℕ) → w ≤ 128 → high < 2 ^ w → Lawful (λ n. within low high n ≡ true) (digits w) (count_reads w low high)
@@ -49,8 +48,8 @@ lawful_context =
     let a = both_true (counts_lawful c) _ h in
     let n = both_true (within 0 4 (length c.windows)) _ a.0 in
     let m = both_true (within 0 4 (length c.blocks)) (within 0 2 (length c.countries)) n.1 in
-    let i = both_true (each window_lawful c.windows) _ a.1 in
-    let j = both_true (each block_lawful c.blocks) (each country_lawful c.countries) i.1 in
+    let i = both_true (list_all window_lawful c.windows) _ a.1 in
+    let j = both_true (list_all block_lawful c.blocks) (list_all country_lawful c.countries) i.1 in
     (((n.0, m), ((refl, every_each window_lawful c.windows i.0), ((refl, every_each block_lawful c.blocks j.0), (refl, every_each country_lawful c.countries j.1)))), refl))
     (λ z h.
     let ws = h.1.0 in

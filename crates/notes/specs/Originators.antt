@@ -1,9 +1,9 @@
 -- Originator entries. Assumes nothing.
 use Rattle.std.specs.Prelude.{ℕ, ◌^◌, Bool, true, cond, ◌&&◌, List, [], ◌++◌, length, take, drop, ◌==◌, nat_lt}
+use Rattle.std.specs.List.{list_all}
 use Rattle.bits.specs.Digits.{digits, bits}
 use Rattle.bits.specs.Codec.{Reads, field, text}
 use Rattle.notes.specs.Contexts.{within}
-use Rattle.texts.specs.Lists.{each}
 use Rattle.notes.specs.Readings.{guard, seq, made}
 use Rattle.texts.specs.Texts.{pattern, domain, standing}
 use Rattle.notes.specs.declared.originator.EntryKind.{EntryKind}
@@ -50,7 +50,7 @@ abbrev pub is_byte : ℕ → Bool
 is_byte b = nat_lt b (2 ^ 8)
 
 abbrev pub originator_lawful : OriginatorValue → Bool
-originator_lawful o = length_lawful o.kind (length o.text) && (text_lawful o.kind o.text && each is_byte o.text)
+originator_lawful o = length_lawful o.kind (length o.text) && (text_lawful o.kind o.text && list_all is_byte o.text)
 
 abbrev pub originator_form : OriginatorValue → List ℕ
 originator_form o = digits 2 (code o.kind) ++ (digits 6 (length o.text) ++ bits o.text)

@@ -1,5 +1,6 @@
 -- Originator entries: where a text ends, and that entries read back. Assumes nothing.
 use Rattle.std.specs.Prelude.{◌≡◌, ℕ, zero, suc, ◌+◌, ◌*◌, ◌^◌, ◌<◌, ◌≤◌, true, ◌&&◌, List, [], ◌∷◌, length, take, drop, Ok, nat_le, refl}
+use Rattle.std.specs.List.{list_all}
 use Rattle.std.proofs.Common.{sym, ap, ◌∙◌, arith, length-append, length-take-le, ⊎_elim, eqb-true, leb-true, lt-ltb, ltb-true}
 use Rattle.std.specs.Int.Digits.{number_from_digits}
 use Rattle.std.proofs.lemmas.List.{take_all}
@@ -9,7 +10,6 @@ use Rattle.bits.specs.Faults.{ended}
 use Rattle.bits.specs.Codec.{field, text, bytes_of, Bytes, Lawful}
 use Rattle.bits.proofs.DigitLaws.{length_digits, length_bits}
 use Rattle.bits.proofs.Codecs.{ok_only, lawful_field, lawful_text}
-use Rattle.texts.specs.Lists.{each}
 use Rattle.notes.specs.Originators.{OriginatorValue, code, coded, length_lawful, text_lawful, kind_reads, length_reads, text_reads, is_byte, originator_lawful, originator_form, originator_reads, part}
 use Rattle.notes.specs.declared.originator.EntryKind.{EntryKind}
 use Rattle.notes.specs.declared.originator.EntryKind.TheVariants.{All, Pattern, Domain, Standing}
@@ -62,20 +62,20 @@ length_below Pattern n e = leb-true n 40 (both_true (nat_le 1 n) (nat_le n 40) e
 length_below Domain n e = leb-true n 40 (both_true (nat_le 1 n) (nat_le n 40) e).1
 length_below Standing n e = leb-true n 40 (both_true (nat_le 1 n) (nat_le n 40) e).1
 
-bytes_each : (t : List ℕ) → each is_byte t ≡ true → Bytes t
+bytes_each : (t : List ℕ) → list_all is_byte t ≡ true → Bytes t
 bytes_each [] e = tt
-bytes_each (b ∷ t) e = let h = both_true (is_byte b) (each is_byte t) e in (ltb-true b (2 ^ 8) h.0, bytes_each t h.1)
+bytes_each (b ∷ t) e = let h = both_true (is_byte b) (list_all is_byte t) e in (ltb-true b (2 ^ 8) h.0, bytes_each t h.1)
 
-each_bytes : (t : List ℕ) → Bytes t → each is_byte t ≡ true
+each_bytes : (t : List ℕ) → Bytes t → list_all is_byte t ≡ true
 each_bytes [] h = refl
-each_bytes (b ∷ t) h = and_true (is_byte b) (each is_byte t) (lt-ltb b (2 ^ 8) h.0) (each_bytes t h.1)
+each_bytes (b ∷ t) h = and_true (is_byte b) (list_all is_byte t) (lt-ltb b (2 ^ 8) h.0) (each_bytes t h.1)
 
 pub lawful_originator : Lawful (λ o. originator_lawful o ≡ true) originator_form originator_reads
 lawful_originator =
     lawful_made (λ o. originator_lawful o ≡ true) (λ z. record { kind = z.0; text = z.1.1 }) (λ o. (o.kind, (length o.text, o.text)))
     (λ o h.
     let a = both_true (length_lawful o.kind (length o.text)) _ h in
-    let b = both_true (text_lawful o.kind o.text) (each is_byte o.text) a.1 in
+    let b = both_true (text_lawful o.kind o.text) (list_all is_byte o.text) a.1 in
     let few : length o.text < 2 ^ 6 = omega (arith, length_below o.kind (length o.text) a.0) in
     ((tt, ((few, a.0), ((refl, bytes_each o.text b.1), b.0))), refl))
     (λ z h.

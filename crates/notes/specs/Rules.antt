@@ -1,12 +1,11 @@
 -- Rules, and the notes that they are written as. Assumes nothing.
 use Rattle.std.specs.Prelude.{ℕ, ◌+◌, ◌-◌, ◌/◌, ◌^◌, Bool, true, false, cond, ◌&&◌, List, ◌++◌, map, length, drop, replicate, Ok, Err, Result, ◌==◌, nat_eq, nat_lt}
-use Rattle.std.specs.List.{flat_map}
+use Rattle.std.specs.List.{flat_map, list_all}
 use Rattle.bits.specs.Digits.{digits, bits}
 use Rattle.bits.specs.Codec.{Reads, field, bytes_of}
 use Rattle.bits.specs.declared.fault.Report.{Report}
 use Rattle.notes.specs.Faults.{broken}
 use Rattle.texts.specs.Few.{listed}
-use Rattle.texts.specs.Lists.{each}
 use Rattle.notes.specs.Readings.{seq, made, times}
 use Rattle.notes.specs.Contexts.{ContextValue, within, count_reads, context_of, context_lawful, context_form, context_reads}
 use Rattle.notes.specs.Originators.{OriginatorValue, originator_of, originator_lawful, originator_form, originator_reads}
@@ -64,7 +63,7 @@ type_lawful t = nat_lt t (2 ^ 16)
 unfoldable pub rule_lawful : RuleValue → Bool
 rule_lawful r =
     nat_lt r.operations (2 ^ 6)
-    && (counts_lawful r && (each originator_lawful r.originators && (each type_lawful r.types && each context_lawful r.contexts)))
+    && (counts_lawful r && (list_all originator_lawful r.originators && (list_all type_lawful r.types && list_all context_lawful r.contexts)))
 
 -- the head of a rule counts its lists
 abbrev pub head_of : RuleValue → Head
@@ -98,7 +97,7 @@ rule_reads =
 
 -- behind the last field stand fewer than 8 bits, all zero
 abbrev pub padded : List ℕ → ℕ → Bool
-padded ds q = nat_lt (length ds - q) 8 && each (λ d. nat_eq d 0) (drop q ds)
+padded ds q = nat_lt (length ds - q) 8 && list_all (λ d. nat_eq d 0) (drop q ds)
 
 abbrev pub finished : List ℕ → Result (RuleValue × ℕ) Report → Result RuleValue Report
 finished ds (Ok x) = cond (padded ds x.1) (Ok x.0) (Err (broken 7 x.1))

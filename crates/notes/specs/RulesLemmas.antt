@@ -1,12 +1,11 @@
 -- Rules read back. Assumes nothing.
 use Rattle.std.specs.Prelude.{◌≡◌, ℕ, zero, suc, ◌+◌, ◌*◌, ◌^◌, ◌<◌, ◌≤◌, Bool, true, false, ◌&&◌, List, [], ◌∷◌, ◌++◌, length, ◌==◌, nat_le, nat_lt, refl}
 use Rattle.std.proofs.Common.{◌∙◌, suc-mul, arith, length-append, leb-true, lt-ltb, ltb-true}
-use Rattle.std.specs.List.{flat_map}
+use Rattle.std.specs.List.{flat_map, list_all}
 use Rattle.bits.specs.Digits.{digits}
 use Rattle.bits.specs.Codec.{field, Lawful}
 use Rattle.bits.proofs.DigitLaws.{length_digits}
 use Rattle.bits.proofs.Codecs.{lawful_field}
-use Rattle.texts.specs.Lists.{each}
 use Rattle.notes.specs.Sets.{spelt}
 use Rattle.notes.specs.Windows.{window_lawful, window_form}
 use Rattle.notes.specs.Blocks.{block_lawful, block_form}
@@ -83,8 +82,8 @@ lawful_rule =
     let b = both_true (counts_lawful r) _ a.1 in
     let n = both_true (within 1 4 (length r.originators)) _ b.0 in
     let m = both_true (within 0 2 (length r.contexts)) (within 0 4 (length r.types)) n.1 in
-    let c = both_true (each originator_lawful r.originators) _ b.1 in
-    let d = both_true (each type_lawful r.types) (each context_lawful r.contexts) c.1 in (
+    let c = both_true (list_all originator_lawful r.originators) _ b.1 in
+    let d = both_true (list_all type_lawful r.types) (list_all context_lawful r.contexts) c.1 in (
       (
         (ltb-true _ _ a.0, (n.0, m)),
         ((refl, every_each originator_lawful r.originators c.0), ((refl, every_each type_lawful r.types d.0), (refl, every_each context_lawful r.contexts d.1))),
@@ -104,10 +103,10 @@ lawful_rule =
     (lawful_seq lawful_head (λ h _. lawful_seq (lawful_times lawful_originator h.originators) (λ _ _. lawful_seq (lawful_times lawful_type h.child_types) (λ _ _. lawful_times lawful_context h.contexts))))
 
 -- a joined list is no longer than its items allow
-joined_short : {X : Type 0} (f : X → List ℕ) (ok : X → Bool) (k : ℕ) → ((x : X) → ok x ≡ true → length (f x) ≤ k) → (xs : List X) → each ok xs ≡ true → length (flat_map f xs) ≤ length xs * k
+joined_short : {X : Type 0} (f : X → List ℕ) (ok : X → Bool) (k : ℕ) → ((x : X) → ok x ≡ true → length (f x) ≤ k) → (xs : List X) → list_all ok xs ≡ true → length (flat_map f xs) ≤ length xs * k
 joined_short f ok k few [] h = omega arith
 joined_short f ok k few (x ∷ xs) h =
-    let b = both_true (ok x) (each ok xs) h in
+    let b = both_true (ok x) (list_all ok xs) h in
     omega (arith, length-append (f x) (flat_map f xs), joined_short f ok k few xs b.1, suc-mul (length xs) k, few x b.0)
 
 block_short : (b : Block) → length (block_form b) ≤ 137
@@ -118,8 +117,8 @@ context_short c h =
     let a = both_true (context_counts c) _ h in
     let n = both_true (within 0 4 (length c.windows)) _ a.0 in
     let m = both_true (within 0 4 (length c.blocks)) (within 0 2 (length c.countries)) n.1 in
-    let i = both_true (each window_lawful c.windows) _ a.1 in
-    let j = both_true (each block_lawful c.blocks) (each country_lawful c.countries) i.1 in
+    let i = both_true (list_all window_lawful c.windows) _ a.1 in
+    let j = both_true (list_all block_lawful c.blocks) (list_all country_lawful c.countries) i.1 in
     let ws = joined_short window_form window_lawful 294 (λ w _. omega (arith, window_long w)) c.windows i.0 in
     let bs = joined_short block_form block_lawful 137 (λ b _. block_short b) c.blocks j.0 in
     let cs = joined_short country_form country_lawful 16 (λ k _. omega (arith, country_long k)) c.countries j.1 in
@@ -133,8 +132,8 @@ rule_short r h =
     let b = both_true (counts_lawful r) _ a.1 in
     let n = both_true (within 1 4 (length r.originators)) _ b.0 in
     let m = both_true (within 0 2 (length r.contexts)) (within 0 4 (length r.types)) n.1 in
-    let c = both_true (each originator_lawful r.originators) _ b.1 in
-    let d = both_true (each type_lawful r.types) (each context_lawful r.contexts) c.1 in
+    let c = both_true (list_all originator_lawful r.originators) _ b.1 in
+    let d = both_true (list_all type_lawful r.types) (list_all context_lawful r.contexts) c.1 in
     let os = joined_short originator_form originator_lawful 328 originator_short r.originators c.0 in
     let ts = joined_short (digits 16) type_lawful 16 (λ t _. omega (arith, length_digits 16 t)) r.types d.0 in
     let cs = joined_short context_form context_lawful 1764 context_short r.contexts d.1 in

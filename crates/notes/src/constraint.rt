@@ -1,7 +1,7 @@
 // Constraints: packed items that admit values. What holds of lists of them is said and proved once, for every kind.
 ghost use Rattle.std.specs.Prelude.{◌≡◌, Bool, true, List, Option};
+ghost use Rattle.std.specs.List.{list_any, list_all};
 ghost use Rattle.std.specs.Option.{option_copied};
-ghost use Rattle.texts.specs.Lists.{some, each};
 ghost use Rattle.notes.specs.Constraints.{list_admits, list_admits_option, list_covers};
 
 use super::packed::Packed;
@@ -25,7 +25,7 @@ pub trait Constraint: Packed {
 }
 
 fn one_admits<C: Constraint>(items: &[C], v: &C::Value) -> bool
-    ensures { result ≡ some (λ x. C.admitted x v.now) items.now }
+    ensures { result ≡ list_any (λ x. C.admitted x v.now) items.now }
 {
     items.iter().any(|x| x.admits(v))
 }
@@ -41,13 +41,13 @@ pub fn list_admits<C: Constraint>(items: &[C], v: Option<&C::Value>) -> bool
 }
 
 fn one_covers<C: Constraint>(items: &[C], other: &C) -> bool
-    ensures { result ≡ some (λ x. C.covered x other.now) items.now }
+    ensures { result ≡ list_any (λ x. C.covered x other.now) items.now }
 {
     items.iter().any(|x| x.covers(other))
 }
 
 fn each_covered<C: Constraint>(items: &[C], others: &[C]) -> bool
-    ensures { result ≡ each (λ y. some (λ x. C.covered x y) items.now) others.now }
+    ensures { result ≡ list_all (λ y. list_any (λ x. C.covered x y) items.now) others.now }
 {
     others.iter().all(|y| one_covers(items, y))
 }

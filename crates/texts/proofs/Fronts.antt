@@ -1,8 +1,9 @@
 -- What stands behind a front of a text. Assumes nothing.
 use Rattle.std.proofs.Common.{◌≡◌, ℕ, true, false, cond, not, ◌&&◌, eqb, leb, ◌≢◌, List, [], ◌∷◌, ◌++◌, length, is_some, Some, None, Option, sym, ap, ◌∙◌, append_assoc, arith, Bor, MatchOption}
+use Rattle.std.specs.List.{list_all}
 use borrow.Author.Tests.{clash}
 use Rattle.std.proofs.lemmas.Bool.{eq-eqb}
-use Rattle.texts.specs.Lists.{each, none}
+use Rattle.texts.specs.Lists.{none}
 use Rattle.texts.specs.Matching.{matches, begins}
 use Rattle.texts.specs.Texts.{visible, plain, segment, domain, slash_then, full}
 use Rattle.texts.proofs.Bools.{both_true}
@@ -30,13 +31,13 @@ plain_starless b e h =
     let outer = both_true (visible b && not (eqb b 47)) (not (eqb b 42)) e in
     clash (ap not (sym (eq-eqb b 42 h)) ∙ outer.1)
 
-each_starless : (d : List ℕ) → each plain d ≡ true → Starless d
+each_starless : (d : List ℕ) → list_all plain d ≡ true → Starless d
 each_starless [] e = tt
-each_starless (b ∷ d) e = let w = both_true (plain b) (each plain d) e in (plain_starless b w.0, each_starless d w.1)
+each_starless (b ∷ d) e = let w = both_true (plain b) (list_all plain d) e in (plain_starless b w.0, each_starless d w.1)
 
 pub domain_starless : (d : List ℕ) → domain d ≡ true → Starless d
 unfolding segment
-domain_starless d e = each_starless d (both_true (not (none d)) (each plain d) (both_true (leb (length d) 24) _ e).1).1
+domain_starless d e = each_starless d (both_true (not (none d)) (list_all plain d) (both_true (leb (length d) 24) _ e).1).1
 
 abbrev named : List ℕ → List ℕ
 named d = 47 ∷ 47 ∷ d

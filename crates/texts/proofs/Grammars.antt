@@ -1,10 +1,10 @@
 -- The test of identities is the grammar. Assumes nothing.
 use Rattle.std.proofs.Common.{◌≡◌, ℕ, ◌<◌, ◌≤◌, Bool, true, not, ◌&&◌, eqb, leb, ◌≢◌, ◌⊎◌, List, [], ◌∷◌, ◌++◌, length, codes, Decides, sym, refl, ap, ◌∙◌, inl, inr, append_assoc, arith}
-use Rattle.std.specs.List.{join_with_byte, AllByRecursion}
+use Rattle.std.specs.List.{join_with_byte, AllByRecursion, list_all}
 use Rattle.std.proofs.ByRecursion.{All-weaker, Decides-by_and}
 use Rattle.std.proofs.lemmas.Bool.{and_parts, and_from, leb-true, le-leb, eqb-true, false≢true}
 use Rattle.std.proofs.lemmas.Bool.Decides.{nat_tests, Decides-and}
-use Rattle.texts.specs.Lists.{each, none}
+use Rattle.texts.specs.Lists.{none}
 use Rattle.texts.specs.Pieces.{pieces}
 use Rattle.texts.specs.Texts.{plain, segment, path, slash_then, identity}
 use Rattle.texts.specs.Grammar.{Plain, Segment, TwoSegments, ThreeSegments, IdentityGrammar}
@@ -19,10 +19,10 @@ some_decides (b ∷ s) = ((λ e. omega arith), λ h. refl)
 
 segment_decides : (s : List ℕ) → Decides (segment plain s) (Segment s)
 unfolding segment
-segment_decides s = Decides-and _ _ (some_decides s) (Decides-by_and plain Plain (each plain) plain_decides refl (λ _ _. refl) s)
+segment_decides s = Decides-and _ _ (some_decides s) (Decides-by_and plain Plain (list_all plain) plain_decides refl (λ _ _. refl) s)
 
-segments_decide : (ps : List (List ℕ)) → Decides (each (segment plain) ps) (AllByRecursion Segment ps)
-segments_decide = Decides-by_and (segment plain) Segment (each (segment plain)) segment_decides refl (λ _ _. refl)
+segments_decide : (ps : List (List ℕ)) → Decides (list_all (segment plain) ps) (AllByRecursion Segment ps)
+segments_decide = Decides-by_and (segment plain) Segment (list_all (segment plain)) segment_decides refl (λ _ _. refl)
 
 after_slash : (test : List ℕ → Bool) (t : List ℕ) → slash_then test t ≡ true → (u : List ℕ) × (t ≡ 47 ∷ u) × (test u ≡ true)
 after_slash test [] e = absurd (false≢true e)
@@ -52,7 +52,7 @@ sound t e =
     let u = after_slash (slash_then (path plain 2 3)) t h.1 in
     let v = after_slash (path plain 2 3) u.0 u.2 in
     let ps = pieces 47 v.0 in
-    let parts = and_parts (leb 2 (length ps) && leb (length ps) 3) (each (segment plain) ps) v.2 in
+    let parts = and_parts (leb 2 (length ps) && leb (length ps) 3) (list_all (segment plain) ps) v.2 in
     let count = and_parts (leb 2 (length ps)) (leb (length ps) 3) parts.0 in
     let same : t ≡ 47 ∷ 47 ∷ join_with_byte 47 ps = u.1 ∙ ap (λ l. 47 ∷ l) v.1 ∙ ap (λ l. 47 ∷ 47 ∷ l) (sym (rejoined_pieces 47 v.0)) in
     (rw same (two_or_three ps (leb-true _ _ count.0) (leb-true _ _ count.1) ((segments_decide ps).0 parts.1)), leb-true _ _ h.0)
@@ -67,7 +67,7 @@ unfolding path
 rejoined_path t p ps e low high h =
     let cut = pieces_rejoined 47 p ps (no_slash p h.0) (All-weaker Segment _ no_slash ps h.1) in
     let count = and_from _ _ (le-leb 2 (length (p ∷ ps)) (omega arith)) (le-leb (length (p ∷ ps)) 3 (omega arith)) in
-    ap (slash_then (slash_then (path plain 2 3))) e ∙ ap (λ l. leb 2 (length l) && leb (length l) 3 && each (segment plain) l) cut
+    ap (slash_then (slash_then (path plain 2 3))) e ∙ ap (λ l. leb 2 (length l) && leb (length l) 3 && list_all (segment plain) l) cut
     ∙ and_from _ _ count ((segments_decide (p ∷ ps)).1 h)
 
 complete : (t : List ℕ) → (TwoSegments t ⊎ ThreeSegments t) × (length t ≤ 40) → identity t ≡ true

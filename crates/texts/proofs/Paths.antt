@@ -1,8 +1,9 @@
 -- A path, read byte by byte. Assumes nothing.
 use Rattle.std.proofs.Common.{◌≡◌, ℕ, suc, ◌+◌, ◌<◌, Bool, true, false, cond, not, ◌&&◌, ◌||◌, eqb, leb, List, [], ◌∷◌, length, get_or, drop, sym, refl, ap, ◌∙◌, zero-add, arith}
+use Rattle.std.specs.List.{list_all}
 use mathlib.Core.Bool.{and-true, and-false, and_assoc}
 use Rattle.std.proofs.lemmas.List.{at_drop_more}
-use Rattle.texts.specs.Lists.{each, none}
+use Rattle.texts.specs.Lists.{none}
 use Rattle.texts.specs.Pieces.{pieces, in_front}
 use Rattle.texts.specs.Texts.{segment, path}
 use Rattle.texts.proofs.PieceLaws.{pieces_there, length_in_front}
@@ -11,9 +12,9 @@ module _ (ok : ℕ → Bool) where
   -- segments, of the first of which some bytes are read already where `inside` says so
   abbrev opened : Bool → List (List ℕ) → Bool
   opened inside [] = true
-  opened inside (p ∷ ps) = (inside || not (none p)) && each ok p && each (segment ok) ps
+  opened inside (p ∷ ps) = (inside || not (none p)) && list_all ok p && list_all (segment ok) ps
 
-  opened_new : (ps : List (List ℕ)) → opened false ps ≡ each (segment ok) ps
+  opened_new : (ps : List (List ℕ)) → opened false ps ≡ list_all (segment ok) ps
   unfolding segment
   opened_new [] = refl
   opened_new (p ∷ ps) = refl
@@ -24,9 +25,9 @@ module _ (ok : ℕ → Bool) where
 
   opened_byte : (inside : Bool) (b : ℕ) (ps : List (List ℕ)) → opened inside (in_front b ps) ≡ (ok b && opened true ps)
   opened_byte true b [] = and-true (ok b && true)
-  opened_byte true b (p ∷ ps) = and_assoc (ok b) (each ok p) (each (segment ok) ps)
+  opened_byte true b (p ∷ ps) = and_assoc (ok b) (list_all ok p) (list_all (segment ok) ps)
   opened_byte false b [] = and-true (ok b && true)
-  opened_byte false b (p ∷ ps) = and_assoc (ok b) (each ok p) (each (segment ok) ps)
+  opened_byte false b (p ∷ ps) = and_assoc (ok b) (list_all ok p) (list_all (segment ok) ps)
 
 abbrev within : ℕ → ℕ → ℕ → Bool
 within low high n = leb low n && leb n high

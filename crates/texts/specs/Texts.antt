@@ -1,7 +1,8 @@
 -- The texts that rules name: identities, domains, standings and patterns. A text is a row of bytes;
 -- '/' is 47 and '*' is 42. Assumes nothing.
 use Rattle.std.specs.Prelude.{ℕ, Bool, true, false, cond, not, ◌&&◌, ◌||◌, List, [], ◌∷◌, ◌++◌, length, ◌==◌, nat_le}
-use Rattle.texts.specs.Lists.{each, none}
+use Rattle.std.specs.List.{list_all}
+use Rattle.texts.specs.Lists.{none}
 use Rattle.texts.specs.Pieces.{pieces}
 
 -- 0x21 to 0x7E
@@ -22,11 +23,11 @@ slashed b = visible b && not (b == 42)
 
 -- one or more bytes, each of which is allowed
 unfoldable pub segment : (ℕ → Bool) → List ℕ → Bool
-segment ok s = not (none s) && each ok s
+segment ok s = not (none s) && list_all ok s
 
 -- low to high segments, joined by single slashes
 unfoldable pub path : (ℕ → Bool) → ℕ → ℕ → List ℕ → Bool
-path ok low high t = nat_le low (length (pieces 47 t)) && nat_le (length (pieces 47 t)) high && each (segment ok) (pieces 47 t)
+path ok low high t = nat_le low (length (pieces 47 t)) && nat_le (length (pieces 47 t)) high && list_all (segment ok) (pieces 47 t)
 
 -- a slash, and behind it a text for which the test holds
 abbrev pub slash_then : (List ℕ → Bool) → List ℕ → Bool

@@ -1,7 +1,7 @@
 // Which bytes a text may have.
 ghost use Rattle.std.specs.Prelude.{◌≡◌};
+ghost use Rattle.std.specs.List.{list_all};
 ghost use Rattle.texts.specs.Alphabets.{allowed};
-ghost use Rattle.texts.specs.Lists.{each};
 
 // Each has the visible bytes but '/' and '*', and perhaps one of these two.
 #[derive(Clone, Copy)]
@@ -27,7 +27,7 @@ impl Alphabet {
 
     // Whether each byte of the text is in the alphabet.
     pub(super) fn has_all(self, text: &[u8]) -> bool
-        ensures { result ≡ each (allowed self) text.now }
+        ensures { result ≡ list_all (allowed self) text.now }
     {
         text.iter().all(|b| self.has(*b))
     }
