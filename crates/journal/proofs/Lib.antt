@@ -1,5 +1,5 @@
-mod Calls
 mod Decimals
 mod Fields
 mod Names
+mod Pairs
 mod Pieces

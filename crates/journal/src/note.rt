@@ -10,8 +10,8 @@ pub(crate) fn note<'a>(word: &[u8], space: &'a mut [u8]) -> Option<&'a [u8]>
     requires { length word.now ≤ length space.old }
     ensures { MatchOption result ((note : Bor (List ℕ)) → Noted word.now note → ⊥) (λ note. Noted word.now note) }
 {
-    if word.len() == 1 && word[0] == b'-' {
-        return Some(&space[0..0]);
+    if word == b"-".as_slice() {
+        return Some(&[]);
     }
     bytes(word, space)
 }
@@ -21,14 +21,14 @@ fn bytes<'a>(word: &[u8], space: &'a mut [u8]) -> Option<&'a [u8]>
     requires { length word.now ≤ length space.old }
     ensures { MatchOption result ((bytes : List ℕ) → Hex word.now bytes → ⊥) (λ bytes. Hex word.now bytes.now) }
 {
-    let size = word.len() / 2;
-    if size == 0 || word.len() % 2 != 0 {
+    let (pairs, odd) = word.as_chunks::<2>();
+    if pairs.is_empty() || !odd.is_empty() {
         return None;
     }
-    for i in 0..size {
-        space[i] = byte(word[2 * i], word[2 * i + 1])?;
+    for (i, [high, low]) in pairs.iter().enumerate() {
+        space[i] = byte(*high, *low)?;
     }
-    Some(&space[0..size])
+    Some(&space[..pairs.len()])
 }
 
 // The byte that two hexadecimal digits write.

@@ -11,11 +11,8 @@ pub fn decimal(word: &[u8]) -> Option<u32>
     if word.is_empty() {
         return None;
     }
-    let mut number: u32 = 0;
-    for byte in word {
-        number = push_digit(number, *byte)?;
-    }
-    Some(number)
+    word.iter()
+        .try_fold(0, |number, byte| push_digit(number, *byte))
 }
 
 // The number with one digit more at its end.

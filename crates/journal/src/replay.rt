@@ -63,7 +63,7 @@ impl<W: Write> Replay<W> {
     {
         let line = without_line_feed(self.line.as_slice());
         self.out.write_all(line)?;
-        if let LineKind::Call = kind_of(line) {
+        if kind_of(line) == LineKind::Call {
             let answer = Answer::of_line(line, self.note.as_mut_slice());
             self.tally.count(&answer);
             write!(self.out, " -> {answer}")?;

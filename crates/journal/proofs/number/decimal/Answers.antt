@@ -1,20 +1,13 @@
-use Rattle.std.proofs.Common.{rules}
-use Rattle.std.proofs.lemmas.List.{drop_more, drop_all}
-use Rattle.journal.proofs.Decimals.{more, stop, done}
+use Rattle.std.proofs.Common.{ℕ, rules}
+use Rattle.std.proofs.lemmas.Iterator.{YieldsList-from_slice}
+use Rattle.texts.proofs.TryFolds.{kept_by_try_fold}
+use Rattle.journal.specs.Numbers.{Decimal}
+use Rattle.journal.proofs.Decimals.{Sofar, begun, turn, ended}
 use Rattle.journal.proofs.number.decimal.Goals as goal
-
-pub returns-in_err-number : goal.returns-in_err-number
-returns-in_err-number c =
-    let inv = rw (drop_more c.args.word.now c.loop-byte.byte-index 0 c.loop-byte-test.true) at c.loop-byte.invariant in
-    rw c.from_residual.ensures (stop _ _ _ _ inv c.in_err-number.ensures)
-
-pub loop-byte-preserved : goal.loop-byte-preserved
-loop-byte-preserved c =
-    let inv = rw (drop_more c.args.word.now c.loop-byte.byte-index 0 c.loop-byte-test.true) at c.loop-byte.invariant in
-    let told = c.in_ok-number.ensures in
-    rw told.1 (more _ _ _ _ inv told.0)
 
 pub returns : goal.returns
 returns c =
-    let inv = rw (drop_all c.loop-byte.byte-index c.args.word.now c.loop-byte-test.false) at c.loop-byte.invariant in
-    done _ _ inv (search rules)
+    let word = c.args.word.now in
+    ended word c.try_fold.result (search rules)
+    (kept_by_try_fold _ _ _ _ (Sofar word) ((n : ℕ) → Decimal word n → ⊥) (λ x a w h k. (search rules, turn word x.now a w (search rules)))
+    _ _ 0 c.try_fold.result _ c.try_fold.ensures.ran (YieldsList-from_slice word c.iter.ensures.rest) (begun word))
