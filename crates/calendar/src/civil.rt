@@ -5,6 +5,7 @@ ghost use Rattle.calendar.specs.Civil.{civil_of, last_second, Examples};
 
 use crate::first_days::first_day;
 use crate::months::month_of;
+use std::fmt;
 
 #[derive(Clone, Copy, PartialEq, Eq, Debug)]
 pub struct CivilTime {
@@ -18,6 +19,24 @@ pub struct CivilTime {
     // 0 is Sunday
     pub weekday: u8,
     pub year: u16,
+}
+
+impl fmt::Display for CivilTime {
+    fn fmt<W: fmt::Write>(&self, f: &mut fmt::Formatter<W>) -> fmt::Result {
+        let CivilTime {
+            second,
+            minute,
+            hour,
+            day,
+            month,
+            weekday,
+            year,
+        } = *self;
+        write!(
+            f,
+            "{year:04}-{month:02}-{day:02} {hour:02}:{minute:02}:{second:02} weekday {weekday}"
+        )
+    }
 }
 
 // The weekday of a day, counted from 1 January 2000.

@@ -11,6 +11,7 @@ use Rattle.journal.specs.declared.answer.Answer.TheVariants.{Refused, Civil, Rul
 use Rattle.journal.specs.declared.call.Call.{Call}
 use Rattle.journal.specs.declared.call.Call.TheVariants.{When, Read, Write}
 use Rattle.journal.specs.declared.unreadable.Unreadable.{Unreadable as Fault}
+use Rattle.texts.specs.Few.{listed}
 use Rattle.journal.specs.declared.written.Written.{Written}
 use Rattle.journal.specs.Calls.{Spells, ReadsLine}
 
@@ -20,7 +21,7 @@ when_answer n = cond (nat_le n last_second) (Civil (civil_of n)) (Refused (recor
 
 -- the bytes that are written
 abbrev pub written : Written → List ℕ
-written w = take w.len w.bytes
+written w = listed w.note
 
 -- a rule that says what the note says, or the note's refusal
 abbrev pub ReadAnswer : Result RuleValue Report → Answer → Type 0

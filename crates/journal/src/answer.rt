@@ -63,26 +63,10 @@ impl fmt::Display for Answer {
     fn fmt<W: fmt::Write>(&self, f: &mut fmt::Formatter<W>) -> fmt::Result {
         match self {
             Answer::Refused(report) => write!(f, "refused {report}"),
-            Answer::Civil(time) => write_civil(time, f),
+            Answer::Civil(time) => write!(f, "{time}"),
             Answer::Rule(rule) => write!(f, "{rule}"),
             Answer::Note(note) => write!(f, "note {note}"),
             Answer::Unreadable(fault) => write!(f, "unreadable: {fault}"),
         }
     }
-}
-
-fn write_civil<W: fmt::Write>(time: &CivilTime, f: &mut fmt::Formatter<W>) -> fmt::Result {
-    let CivilTime {
-        second,
-        minute,
-        hour,
-        day,
-        month,
-        weekday,
-        year,
-    } = *time;
-    write!(
-        f,
-        "{year:04}-{month:02}-{day:02} {hour:02}:{minute:02}:{second:02} weekday {weekday}"
-    )
 }

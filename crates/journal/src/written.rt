@@ -5,27 +5,28 @@ ghost use Rattle.notes.specs.Notes.{rule_note};
 
 use notes::Rule;
 use std::fmt;
+use texts::Few;
 
-// The note is the first `len` bytes.
 #[derive(Clone, Copy)]
 pub struct Written {
-    bytes: [u8; 615],
-    len: usize,
+    note: Few<u8, 615>,
 }
 
 impl Written {
     pub fn of_rule(rule: &Rule) -> Written
         ensures { written result ≡ rule_note rule.now }
     {
-        let mut bytes = [0; 615];
-        let len = rule.write(&mut bytes);
-        Written { bytes, len }
+        let mut space = [0; 615];
+        let len = rule.write(&mut space);
+        Written {
+            note: Few::of(&space[0..len]).unwrap(),
+        }
     }
 }
 
 impl fmt::Display for Written {
     fn fmt<W: fmt::Write>(&self, f: &mut fmt::Formatter<W>) -> fmt::Result {
-        for byte in self.bytes.iter().take(self.len) {
+        for byte in self.note.as_slice() {
             write!(f, "{byte:02x}")?;
         }
         Ok(())
