@@ -1,5 +1,5 @@
 -- What a call is answered. Assumes nothing.
-use Rattle.std.specs.Prelude.{◌≡◌, ℕ, cond, ◌⊎◌, List, take, Ok, Err, Result, nat_le}
+use Rattle.std.specs.Prelude.{◌≡◌, ℕ, cond, ◌⊎◌, List, Ok, Err, Result, nat_le}
 use Rattle.bits.specs.declared.fault.Layer.TheVariants.{Register}
 use Rattle.bits.specs.declared.fault.Report.{Report}
 use Rattle.calendar.specs.Civil.{civil_of, last_second}

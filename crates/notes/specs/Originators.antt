@@ -1,5 +1,5 @@
 -- Originator entries. Assumes nothing.
-use Rattle.std.specs.Prelude.{ℕ, ◌^◌, Bool, true, cond, ◌&&◌, List, [], ◌++◌, length, take, drop, ◌==◌, nat_lt}
+use Rattle.std.specs.Prelude.{ℕ, ◌^◌, Bool, true, cond, ◌&&◌, List, ◌++◌, length, take, drop, ◌==◌, nat_lt}
 use Rattle.std.specs.List.{list_all}
 use Rattle.bits.specs.Digits.{digits, bits}
 use Rattle.bits.specs.Codec.{Reads, field, text}

@@ -1,5 +1,4 @@
 use Rattle.std.proofs.Common.{◌≡◌, ◌+◌, ◌≤◌, length, get_or, take, sym, refl, ap, ◌∙◌, arith}
-use lib.Seq.{take-length}
 use Rattle.bits.specs.Digits.{digits, bits, laid}
 use Rattle.bits.proofs.DigitLaws.{length_bits, bits_more, length_bits_take}
 use Rattle.bits.proofs.Laying.{laid_nothing, laid_laid}

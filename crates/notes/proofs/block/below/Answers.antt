@@ -1,5 +1,4 @@
-use Rattle.std.proofs.Common.{◌%◌, ◌<◌, ◌≤◌, sym, ap, lt_of_lt_of_le, mod-eq_of_lt, arith, pow_mono}
-use Rattle.std.proofs.lemmas.Nat.{one_shl, pow_pos}
+use Rattle.std.proofs.Common.{◌≤◌, sym, lt_of_lt_of_le, mod-eq_of_lt, arith, pow_mono}
 use Rattle.notes.proofs.block.below.Goals as goal
 
 pub returns-then-n-ge128 : goal.returns-then-n-ge128

@@ -1,6 +1,4 @@
-use Rattle.std.proofs.Common.{sym, ap, subst, arith}
-use Rattle.std.specs.List.{flat_map}
-use Rattle.std.proofs.lemmas.List.{take_all}
+use Rattle.std.proofs.Common.{sym, subst, arith}
 use Rattle.bits.specs.Writer.{Wrote}
 use Rattle.notes.proofs.Writings.{wrote_none, wrote_then, joined_next, joined_room}
 use Rattle.notes.proofs.lists.write_list.Goals as goal

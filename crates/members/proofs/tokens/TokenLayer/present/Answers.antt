@@ -1,7 +1,7 @@
 use Rattle.std.proofs.Common.{◌≡◌, true, [], ◌∷◌, ◌++◌, sym, ap, ◌∙◌}
 use Rattle.texts.specs.Few.{listed}
 use Rattle.texts.specs.TextValues.{text_of}
-use Rattle.members.specs.Rows.{row_of, listed as pairs_of}
+use Rattle.members.specs.Rows.{listed as pairs_of}
 use Rattle.members.specs.Tokens.{with_presented}
 use Rattle.members.proofs.Presenting.{gains_nothing, gains_one}
 use Rattle.members.proofs.RowLaws.{text_short}

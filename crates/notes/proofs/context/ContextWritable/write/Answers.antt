@@ -1,4 +1,4 @@
-use Rattle.std.proofs.Common.{◌++◌, length, ap, subst, arith}
+use Rattle.std.proofs.Common.{◌++◌, subst, arith}
 use Rattle.std.specs.List.{flat_map}
 use Rattle.bits.specs.Writer.{Wrote}
 use Rattle.notes.specs.Windows.{window_form}
@@ -6,7 +6,7 @@ use Rattle.notes.specs.Blocks.{block_form}
 use Rattle.notes.specs.Countries.{country_form}
 use Rattle.notes.specs.Contexts.{context_of, counts_form}
 use Rattle.notes.proofs.Writings.{wrote_then}
-use Rattle.notes.specs.ContextsLemmas.{counts_long, context_long}
+use Rattle.notes.specs.ContextsLemmas.{context_long}
 use Rattle.notes.proofs.context.ContextWritable.write.Goals as goal
 
 pub write_counts-requires : goal.write_counts-requires

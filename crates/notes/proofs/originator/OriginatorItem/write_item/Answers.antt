@@ -1,4 +1,4 @@
-use Rattle.std.proofs.Common.{◌++◌, length, ap, ◌∙◌, subst, arith}
+use Rattle.std.proofs.Common.{◌++◌, length, ap, subst, arith}
 use Rattle.bits.specs.Digits.{digits, bits}
 use Rattle.bits.specs.Writer.{Wrote}
 use Rattle.bits.proofs.DigitLaws.{length_digits}

@@ -1,4 +1,4 @@
-use Rattle.std.proofs.Common.{◌≡◌, ℕ, ◌<◌, ◌≤◌, List, length, get_or, take, drop, Ok, Some, None, Option, sym, ap, ◌∙◌, subst, arith, Bor, MatchOption, slice_index_or}
+use Rattle.std.proofs.Common.{◌≡◌, ℕ, ◌<◌, ◌≤◌, List, length, get_or, take, drop, Ok, Some, None, Option, ap, ◌∙◌, subst, arith, Bor, MatchOption, slice_index_or}
 use Rattle.std.proofs.lemmas.List.{get_or-map, length-map}
 use Rattle.texts.specs.Few.{listed}
 use Rattle.notes.specs.Notes.{TextOf, NoText}

@@ -1,6 +1,6 @@
 use Rattle.std.proofs.Common.{arith}
 use Rattle.notes.proofs.Writings.{wrote_then}
-use Rattle.notes.specs.WindowsLemmas.{clock_long, date_long, window_long}
+use Rattle.notes.specs.WindowsLemmas.{window_long}
 use Rattle.notes.proofs.window.WindowWritable.write.Goals as goal
 
 pub returns : goal.returns

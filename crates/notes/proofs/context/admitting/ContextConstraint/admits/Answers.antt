@@ -1,5 +1,4 @@
 use Rattle.std.proofs.Common.{◌≡◌, ◌&&◌, Some, ap, ◌∙◌}
-use Rattle.std.specs.Option.{option_copied}
 use Rattle.notes.specs.Blocks.{block_admits}
 use Rattle.notes.specs.Constraints.{list_admits_option}
 use Rattle.notes.specs.Countries.{country_same}
