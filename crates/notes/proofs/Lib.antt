@@ -4,3 +4,4 @@ pub mod Notes
 pub mod Careful
 pub mod CarefulRules
 pub mod Sides
+pub mod Room

@@ -97,6 +97,7 @@ impl Packed for Block {
 }
 
 impl Writable for Block {
+    #[tactic(auto, using(crate::proofs::Room::room))]
     fn write(&self, w: &mut BitWriter) {
         put(w, 1, u128::from(self.family));
         put(w, 8, self.prefix as u128);

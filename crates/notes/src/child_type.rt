@@ -38,6 +38,7 @@ impl Packed for u16 {
 }
 
 impl Writable for u16 {
+    #[tactic(auto, using(crate::proofs::Room::room))]
     fn write(&self, w: &mut BitWriter) {
         put(w, 16, *self as u128);
     }

@@ -74,6 +74,7 @@ impl Counts {
 }
 
 impl Context {
+    #[tactic(auto, using(crate::proofs::Room::room))]
     fn write_counts(&self, w: &mut BitWriter)
         requires { Fits w.old 8 }
         ensures { Wrote w.old w.new (counts_form (context_of self.now)) }

@@ -81,6 +81,7 @@ impl Packed for Country {
 }
 
 impl Writable for Country {
+    #[tactic(auto, using(crate::proofs::Room::room))]
     fn write(&self, w: &mut BitWriter) {
         put(w, 8, self.first as u128);
         put(w, 8, self.second as u128);

@@ -142,6 +142,7 @@ impl Item for Originator {
         Ok(Originator { kind, place, len })
     }
 
+    #[tactic(auto, using(crate::proofs::Room::room))]
     fn write_item(&self, note: &[u8], w: &mut BitWriter) {
         let text = self.text(note);
         put(w, 2, u128::from(self.kind));

@@ -55,6 +55,7 @@ impl ClockSets {
         })
     }
 
+    #[tactic(auto, using(crate::proofs::Room::room))]
     fn write(&self, w: &mut BitWriter)
         requires { Fits w.old (length (clock_form self.now)) }
         ensures { Wrote w.old w.new (clock_form self.now) }
@@ -95,6 +96,7 @@ impl DateSets {
         })
     }
 
+    #[tactic(auto, using(crate::proofs::Room::room))]
     fn write(&self, w: &mut BitWriter)
         requires { Fits w.old (length (date_form self.now)) }
         ensures { Wrote w.old w.new (date_form self.now) }

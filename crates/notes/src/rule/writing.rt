@@ -25,6 +25,7 @@ impl From<Side> for u128 {
 }
 
 impl Head {
+    #[tactic(auto, using(crate::proofs::Room::room))]
     fn write(&self, w: &mut BitWriter)
         requires { Fits w.old 16 }
         ensures { Wrote w.old w.new (head_form self.now) }

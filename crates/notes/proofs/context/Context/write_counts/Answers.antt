@@ -1,24 +1,8 @@
 use Rattle.std.proofs.Common.{◌++◌, length, subst, arith}
 use Rattle.bits.specs.Digits.{digits}
 use Rattle.bits.specs.Writer.{Wrote}
-use Rattle.bits.proofs.DigitLaws.{length_digits}
 use Rattle.notes.proofs.Writings.{wrote_then}
 use Rattle.notes.proofs.context.Context.write_counts.Goals as goal
-
-pub put-requires-2 : goal.put-requires-2
-put-requires-2 c = omega (arith, c.put.ensures.moved, c.put.ensures.size, length_digits 3 (length c.as_slice.result.now))
-
-pub put-requires-3 : goal.put-requires-3
-put-requires-3 c =
-    omega (
-      arith,
-      c.put.ensures.moved,
-      c.put.ensures.size,
-      length_digits 3 (length c.as_slice.result.now),
-      c.put-2.ensures.moved,
-      c.put-2.ensures.size,
-      length_digits 3 (length c.as_slice-2.result.now),
-    )
 
 pub returns : goal.returns
 returns c =
