@@ -5,7 +5,7 @@ ghost use Rattle.bits.specs.declared.fault.Layer.TheVariants.{Register};
 use bits::{Layer, Report};
 use texts::Full;
 
-// A token layer or a leavers layer is full: refusal 21 of the register's layer.
+// A token layer or a leavers layer is full: refusal 21 of the register's layer. A type of its own, as `Unlawful` is.
 #[derive(Clone, Copy, Debug, PartialEq, Eq)]
 pub struct LayerFull;
 

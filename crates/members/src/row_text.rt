@@ -6,7 +6,8 @@ use texts::same_text;
 
 const MAX_LEN: usize = 40;
 
-// The text is the first `len` bytes. A row with a length above 40 counts for nothing.
+// The text is the first `len` bytes. A row with a length above 40 counts for nothing. Both fields are open, since tables are
+// filled by others.
 #[derive(Clone, Copy, Default)]
 pub struct RowText {
     pub bytes: [u8; MAX_LEN],

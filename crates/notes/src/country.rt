@@ -3,7 +3,7 @@ ghost use Rattle.std.specs.Prelude.{◌≡◌, ◌<◌};
 ghost use Rattle.bits.specs.Reader.{bytes, source, place};
 ghost use Rattle.notes.specs.declared.country.Country.{Country as CountryValue};
 ghost use Rattle.notes.specs.Told.{Read};
-ghost use Rattle.notes.specs.Countries.{country_lawful, country_form, country_reads, country_same, letter_reads, upper};
+ghost use Rattle.notes.specs.Countries.{country_lawful, country_form, country_reads, country_same, letter_reads};
 ghost use Rattle.notes.specs.CountriesLemmas.{lawful_country, country_long};
 ghost use Rattle.std.proofs.Common.{arith, rules};
 
@@ -33,25 +33,19 @@ impl Country {
     pub fn is_lawful(&self) -> bool
         ensures { result ≡ country_lawful self.now }
     {
-        is_upper(self.first) & is_upper(self.second)
+        self.first.is_ascii_uppercase() & self.second.is_ascii_uppercase()
     }
-}
-
-fn is_upper(b: u8) -> bool
-    ensures { result ≡ upper b }
-{
-    (b >= 65) & (b <= 90)
 }
 
 fn letter(r: &mut BitReader) -> Result<u8, NoteFault>
     ensures { Read letter_reads r.old result r.new }
 {
     let place = r.place();
-    let v = r.take(8)?;
-    if v < 65 || v > 90 {
+    let letter = r.take(8)? as u8;
+    if !letter.is_ascii_uppercase() {
         return Err(NoteFault::Letter { place });
     }
-    Ok(v as u8)
+    Ok(letter)
 }
 
 impl Packed for Country {

@@ -33,6 +33,7 @@ impl From<BitFault> for NoteFault {
 }
 
 impl NoteFault {
+    // The numbers stand here alone; the report is what every layer passes on.
     pub fn report(self) -> Report
         ensures { result ≡ report_of self }
     {

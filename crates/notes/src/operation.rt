@@ -26,7 +26,7 @@ impl Operation {
         Operation::Notify,
     ];
 
-    // The place of the operation in a set of operations.
+    // The place of the operation in a set of operations. A method, since callers have its bound from it too.
     pub fn number(self) -> u8
         ensures value { result ≡ operation_number self }
         ensures bound { result < 6 }

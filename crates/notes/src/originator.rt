@@ -22,7 +22,8 @@ pub enum EntryKind {
     Standing,
 }
 
-// The place is the number of the text's first byte in the note.
+// The place is the number of the text's first byte in the note. A slice of the note would tie a rule to a borrowed note, and
+// a rule keeps its own.
 #[derive(Clone, Copy, Default)]
 pub struct Originator {
     kind: EntryKind,

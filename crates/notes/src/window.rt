@@ -20,6 +20,7 @@ use calendar::{CivilTime, Instant};
 
 pub(super) mod words;
 
+// The sets of a clock's values and those of a date's are two structs of the same form: each names its own fields.
 #[derive(Clone, Copy, Default)]
 pub struct ClockSets {
     seconds: Set<60>,

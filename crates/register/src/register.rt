@@ -17,7 +17,8 @@ const USED_ROWS: usize = 256;
 
 const USED_TARGETS: usize = 4096;
 
-// The first 256 rows and the first 4,096 targets are used.
+// The first 256 rows and the first 4,096 targets are used. The calls take policies and rule numbers as they come from
+// outside: which of them are too high is the calls' own refusal.
 #[derive(Drop)]
 pub struct Register {
     home: Domain,

@@ -3,6 +3,7 @@ ghost use Rattle.std.specs.Prelude.{◌≡◌, ◌<◌, false, slice_index_or, s
 ghost use Rattle.register.specs.Targets.{unlinked as no_links};
 
 // Which policies are linked to the target: a policy above 63 is not.
+// A flag for each of the 64 policies, since a table has a fixed size.
 #[derive(Clone, Copy)]
 pub struct TargetRow {
     linked: [bool; 64],

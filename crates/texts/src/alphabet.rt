@@ -17,7 +17,7 @@ impl Alphabet {
     pub(super) fn has(self, b: u8) -> bool
         ensures { result ≡ allowed self b }
     {
-        let visible = (b >= 0x21) & (b <= 0x7E);
+        let visible = b.is_ascii_graphic();
         match self {
             Alphabet::Plain => visible & (b != b'/') & (b != b'*'),
             Alphabet::Starred => visible & (b != b'/'),

@@ -2,7 +2,8 @@
 ghost use Rattle.std.specs.Prelude.{◌≡◌, ◌+◌, ◌<◌, ◌≤◌, [], ◌∷◌, ◌++◌, length, take, drop, MatchResult};
 ghost use Rattle.texts.specs.Few.{listed};
 
-// At most `N` items. Those behind the first `len` stand for nothing.
+// At most `N` items. Those behind the first `len` stand for nothing. An array and not a vector: no call of a register may
+// fail for want of memory, and a row of a table is a plain record.
 #[derive(Clone, Copy)]
 pub struct Few<T, const N: usize> {
     items: [T; N],

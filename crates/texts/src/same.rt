@@ -2,6 +2,7 @@
 ghost use Rattle.std.specs.Prelude.{◌≡◌, ℕ, List, Decides};
 ghost use Rattle.texts.specs.Same.{same};
 
+// A function, since its contract gives callers the test by which definitions compare texts; `==` alone gives that of slices.
 pub fn same_text(a: &[u8], b: &[u8]) -> bool
     ensures { result ≡ same a.now b.now }
 {

@@ -5,7 +5,8 @@ ghost use Rattle.bits.specs.declared.fault.Layer.TheVariants.{Register};
 use super::few::Full;
 use bits::{Layer, Report};
 
-// The bytes are no lawful text: refusal 13 of the register's layer.
+// The bytes are no lawful text: refusal 13 of the register's layer. A type of its own, and not one with the number as a
+// parameter, since an alias of such a type cannot be written as a value.
 #[derive(Clone, Copy, Debug, PartialEq, Eq)]
 pub struct Unlawful;
 

@@ -12,6 +12,7 @@ fn group(address: u128, behind: u8, n: u8) -> u128
     below(above(address, behind), n)
 }
 
+// The two forms of address differ in base, width and separator: one function with three parameters would be longer.
 fn write_dotted<W: fmt::Write>(address: u128, f: &mut fmt::Formatter<W>) -> fmt::Result {
     f.write_joined(
         [24, 16, 8, 0]
