@@ -55,6 +55,7 @@ pub struct BitFault {
 }
 
 impl BitFault {
+    // The number stands here alone; the report is what every layer passes on.
     pub fn report(self) -> Report
         ensures { result ≡ report_of self }
     {

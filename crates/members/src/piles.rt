@@ -18,7 +18,8 @@ fn ask<L: MemberList>(members: &L, identity: &Identity, standing: &[u8]) -> bool
     members.has(identity, standing)
 }
 
-// A noted identity loses the pair that it presented below.
+// A noted identity loses the pair that it presented below. This function and the next build two types of pile: each is the
+// example of its own order.
 pub fn leavers_over_tokens(
     rows: &[MemberRow],
     identity: &Identity,

@@ -12,31 +12,45 @@ fn group(address: u128, behind: u8, n: u8) -> u128
     below(above(address, behind), n)
 }
 
-// The two forms of address differ in base, width and separator: one function with three parameters would be longer.
-fn write_dotted<W: fmt::Write>(address: u128, f: &mut fmt::Formatter<W>) -> fmt::Result {
-    f.write_joined(
-        [24, 16, 8, 0]
-            .iter()
-            .map(|behind| group(address, *behind, 8)),
-        ".",
-    )
+// A group of an address, in the base of its family.
+#[derive(Clone, Copy)]
+struct AddressGroup {
+    family: Family,
+    value: u128,
 }
 
-fn write_grouped<W: fmt::Write>(address: u128, f: &mut fmt::Formatter<W>) -> fmt::Result {
-    let mut separator = "";
-    for behind in [112, 96, 80, 64, 48, 32, 16, 0] {
-        let group = group(address, behind, 16);
-        write!(f, "{separator}{group:x}")?;
-        separator = ":";
+impl fmt::Display for AddressGroup {
+    fn fmt<W: fmt::Write>(&self, f: &mut fmt::Formatter<W>) -> fmt::Result {
+        let AddressGroup { family, value } = *self;
+        match family {
+            Family::Four => write!(f, "{value}"),
+            Family::Six => write!(f, "{value:x}"),
+        }
     }
-    Ok(())
+}
+
+impl Block {
+    // The groups of `n` bits, each with so many bits of the address behind it.
+    fn write_groups<W: fmt::Write>(
+        &self,
+        n: u8,
+        behind: &[u8],
+        separator: &str,
+        f: &mut fmt::Formatter<W>,
+    ) -> fmt::Result {
+        let groups = behind.iter().map(|behind| AddressGroup {
+            family: self.family,
+            value: group(self.address, *behind, n),
+        });
+        f.write_joined(groups, separator)
+    }
 }
 
 impl fmt::Display for Block {
     fn fmt<W: fmt::Write>(&self, f: &mut fmt::Formatter<W>) -> fmt::Result {
         match self.family {
-            Family::Four => write_dotted(self.address, f)?,
-            Family::Six => write_grouped(self.address, f)?,
+            Family::Four => self.write_groups(8, &[24, 16, 8, 0], ".", f)?,
+            Family::Six => self.write_groups(16, &[112, 96, 80, 64, 48, 32, 16, 0], ":", f)?,
         }
         let prefix = self.prefix;
         write!(f, "/{prefix}")

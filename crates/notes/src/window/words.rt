@@ -70,6 +70,7 @@ impl<const W: usize> Set<W> {
         requires { W ≤ 128 }
     {
         let mut any = false;
+        // Each `v` is a number that may be in the set, and its neighbours are asked for too.
         for v in 0..W as u8 {
             let value = u32::from(first) + u32::from(v);
             if self.opens(v) {
