@@ -1,6 +1,5 @@
 -- The laws of notes. Assumes nothing.
-use Rattle.std.proofs.Common.{◌≡◌, ℕ, zero, suc, ◌+◌, ◌-◌, ◌*◌, ◌/◌, ◌%◌, ◌^◌, ◌<◌, ◌≤◌, Bool, true, cond, eqb, ltb, List, [], ◌∷◌, ◌++◌, length, get_or, take, drop, replicate, Ok, Err, Result, sym, refl, ap, ◌∙◌, subst, zero-add, arith, length-append, length-drop, take-append-drop, length-take-le, take_at, drop_at, ltb-true, lt-ltb, eqb-true}
-use Rattle.std.specs.List.{list_all}
+use Rattle.std.proofs.Common.{◌≡◌, ℕ, zero, suc, ◌+◌, ◌-◌, ◌*◌, ◌/◌, ◌%◌, ◌^◌, ◌<◌, ◌≤◌, true, cond, eqb, ltb, List, [], ◌∷◌, ◌++◌, length, get_or, take, drop, replicate, Ok, Err, Result, sym, refl, ap, ◌∙◌, subst, zero-add, arith, length-append, length-drop, take-append-drop, length-take-le, take_at, drop_at, ltb-true, lt-ltb, eqb-true}
 use native.Mathlib.Nat.{zero-div}
 use lib.ListN.{length-replicate}
 use lib.Seq.{take-append-add}
@@ -14,14 +13,12 @@ use Rattle.bits.specs.declared.writer.BitWriter.{BitWriter}
 use Rattle.bits.specs.declared.fault.Report.{Report}
 use Rattle.bits.proofs.DigitLaws.{length_digits, length_bits, length_bits_take, under_bits, bits_append}
 use Rattle.bits.proofs.Codecs.{ok_only, bytes_from, bytes_of_bits, length_bytes_of, small_bytes_of, bits_bytes_of}
+use Rattle.notes.proofs.Padding.{zeros}
 use Rattle.notes.specs.Faults.{broken}
 use Rattle.notes.specs.Rules.{RuleValue, rule_lawful, rule_form, rule_reads, padded, finished, note_reads, note_of}
 use Rattle.notes.specs.Notes.{Filled, WrittenBack, ReadBack, NoteDecides}
 use Rattle.texts.proofs.Bools.{both_true, and_true}
 use Rattle.notes.specs.RulesLemmas.{lawful_rule, rule_short}
-
-abbrev zeros : List ℕ → Bool
-zeros ds = list_all (λ d. eqb d 0) ds
 
 zeros_replicate : (k : ℕ) → zeros (replicate k 0) ≡ true
 zeros_replicate zero = refl

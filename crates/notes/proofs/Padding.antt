@@ -10,7 +10,8 @@ use Rattle.bits.proofs.Codecs.{field_ok}
 use Rattle.notes.specs.Rules.{padded}
 use Rattle.texts.proofs.Bools.{both_true, and_true}
 
-abbrev zeros : List ℕ → Bool
+-- each of them is zero
+abbrev pub zeros : List ℕ → Bool
 zeros ds = list_all (λ d. eqb d 0) ds
 
 number_zeros : (ds : List ℕ) → zeros ds ≡ true → number_from_digits 2 ds ≡ 0

@@ -24,3 +24,4 @@ pub mod ContextsLemmas
 pub mod OriginatorsLemmas
 pub mod Sound
 pub mod ConstraintsLemmas
+pub mod Written

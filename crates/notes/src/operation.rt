@@ -1,6 +1,7 @@
 // The operations that a request may ask for.
-ghost use Rattle.std.specs.Prelude.{◌≡◌, ◌<◌};
+ghost use Rattle.std.specs.Prelude.{◌≡◌, ◌<◌, Some};
 ghost use Rattle.notes.specs.Operations.{operation_number, has_operation};
+ghost use Rattle.notes.specs.Written.{operation_name};
 
 use super::set::Set;
 use std::fmt;
@@ -50,6 +51,8 @@ impl Operation {
 }
 
 impl fmt::Display for Operation {
+    ghost output = { λ operation. Some (operation_name operation) };
+
     fn fmt<W: fmt::Write>(&self, f: &mut fmt::Formatter<W>) -> fmt::Result {
         f.write_str(match self {
             Operation::Create => "create",

@@ -1,4 +1,7 @@
 // A rule in words.
+ghost use Rattle.std.specs.Prelude.{Some};
+ghost use Rattle.notes.specs.Written.{side_name};
+
 use super::super::context::words::write_list;
 use super::super::operation::Operation;
 use super::super::originator::Originator;
@@ -6,6 +9,8 @@ use super::{Rule, RuleParts, Side};
 use std::fmt;
 
 impl fmt::Display for Side {
+    ghost output = { λ side. Some (side_name side) };
+
     fn fmt<W: fmt::Write>(&self, f: &mut fmt::Formatter<W>) -> fmt::Result {
         f.write_str(match self {
             Side::Privileges => "privileges",
