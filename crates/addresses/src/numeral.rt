@@ -13,6 +13,7 @@ fn numeral(piece: &[u8], base: u32, most: usize) -> Option<u32>
     if piece.is_empty() || piece.len() > most {
         return None;
     }
+    // A loop, since that a step fits follows from the digits so far, which a closure would not know.
     let mut number: u32 = 0;
     for byte in piece {
         number = number * base + digit(*byte, base)?;

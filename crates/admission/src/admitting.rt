@@ -70,7 +70,8 @@ impl RuleView<'_> {
             .matches(home, &request.identity, members))
     }
 
-    // Whether the rule admits the request. The member list is asked last, and only where nothing else stands against it.
+    // Whether the rule admits the request. Home, request and member list have three owners, and are passed on as they come.
+    // The member list is asked last, and only where nothing else stands against it.
     #[tactic(auto, unfolding(crate::specs::Admitting::rule_admits))]
     pub fn admits<L: MemberList>(
         &self,

@@ -11,7 +11,7 @@ pub struct RuleView<'a> {
     pub parts: &'a RuleParts,
 }
 
-// An originator entry: its kind, and its text in the note.
+// An originator entry: its kind, and its text in the note. A type of this crate, since matching and covering are its methods.
 #[derive(Clone, Copy)]
 pub(super) struct EntryView<'a> {
     pub(super) kind: EntryKind,

@@ -2,6 +2,7 @@
 ghost use Rattle.std.specs.Prelude.{◌≡◌, Some};
 ghost use Rattle.bits.specs.Faults.{report as report_of};
 ghost use Rattle.bits.specs.Written.{layer_name, report_text};
+ghost use Rattle.bits.specs.declared.fault.Layer.TheVariants.{Register};
 
 use std::fmt;
 
@@ -35,6 +36,19 @@ pub struct Report {
     pub layer: Layer,
 }
 
+impl Report {
+    // A fault of the register's layer, which has no place.
+    pub fn in_register(number: u8) -> Report
+        ensures { result ≡ record { number = number; place = 0; layer = Register } }
+    {
+        Report {
+            number,
+            place: 0,
+            layer: Layer::Register,
+        }
+    }
+}
+
 impl fmt::Display for Report {
     ghost output = { λ report. Some (report_text report) };
 
@@ -55,7 +69,7 @@ pub struct BitFault {
 }
 
 impl BitFault {
-    // The number stands here alone; the report is what every layer passes on.
+    // The number of this layer's fault. A method, since its contract is what the layers above cite.
     pub fn report(self) -> Report
         ensures { result ≡ report_of self }
     {

@@ -4,7 +4,8 @@ ghost use Rattle.std.specs.Prelude.{ℕ, ◌*◌, ◌<◌, ◌≤◌, length, sl
 mod fields;
 
 // Reads the fields of the borrowed bytes one after the other. `pos` counts the bits that are read;
-// it has 128 bits because a row of bytes may have more bits than a `usize` can count.
+// a field begins inside a byte, so that no slice is what is left. It
+// has 128 bits because a row of bytes may have more bits than a `usize` can count.
 #[derive(Drop)]
 pub struct BitReader<'a> {
     src: &'a [u8],

@@ -6,7 +6,8 @@ ghost use Rattle.bits.specs.Writer.{held, end, handle, Wrote};
 use super::byte::with_run;
 use super::fault::BitFault;
 
-// Writes fields one behind the other. `pos` counts the bits that are written.
+// Writes fields one behind the other. `pos` counts the bits that are written: a field ends inside a byte, so that no slice is
+// what is left.
 #[derive(Drop)]
 pub struct BitWriter<'a> {
     out: &'a mut [u8],
@@ -21,8 +22,9 @@ fn run_of_number(v: u128, behind: usize, n: usize) -> u8
     ((v >> behind) % (1 << n)) as u8
 }
 
-// The last `width` binary digits of `v` into the bits of `out` from `start` on. Each turn fills what it can of one byte;
-// as in reading, an iterator would hold the same three counters.
+// The last `width` binary digits of `v` into the bits of `out` from `start` on. Each turn fills what it can of one byte.
+// The walk over the bytes is that of reading: one iterator of runs for both would need a law of what it yields, which is longer
+// than the two loops.
 fn lay(out: &mut [u8], start: u128, width: usize, v: u128)
     requires { (width ≤ 128) × (start + width ≤ 8 * length out.old) }
     ensures field { bits out.new ≡ laid (bits out.old) start (digits width v) }
@@ -48,6 +50,7 @@ fn lay_bytes(out: &mut [u8], start: u128, text: &[u8])
     ensures field { bits out.new ≡ laid (bits out.old) start (bits text.now) }
     ensures behind { (k : ℕ) → start + 8 * length text.now ≤ 8 * k → drop k out.new ≡ drop k out.old }
 {
+    // `at` has more bits than an index of the text.
     let mut at = start;
     for b in text {
         lay(out, at, 8, *b as u128);

@@ -2,7 +2,7 @@
 ghost use Rattle.std.specs.Prelude.{◌≡◌, ◌<◌, true};
 ghost use Rattle.calendar.specs.Gregorian.{first_day, rises};
 
-// The first day of each month from January 2000 to December 2099.
+// The first day of each month from January 2000 to December 2099. A table of fixed size, which no call has to build.
 const FIRST_DAYS: [u32; 1200] = [
     0, 31, 60, 91, 121, 152, 182, 213, 244, 274, 305, 335, 366, 397, 425, 456, 486, 517, 547, 578,
     609, 639, 670, 700, 731, 762, 790, 821, 851, 882, 912, 943, 974, 1004, 1035, 1065, 1096, 1127,

@@ -32,7 +32,8 @@ impl<'a> Call<'a> {
     }
 }
 
-// The call of this name, from the words after the name.
+// The call of this name, from the words after the name. The words are lent for the reading, and the space for as long as the
+// call, so that they are no one value; a word's place is that of the call's form.
 fn arguments<'a>(
     name: CallName,
     words: &mut Words<'_>,
@@ -41,7 +42,7 @@ fn arguments<'a>(
     requires { Within (length space.old) (left words.old) }
     ensures { ReadsCall name (left words.old) result }
 {
-    // Each arm returns at once: the space is lent on in some of them only, and the checker does not join such ways.
+    // Each arm returns at once: the space is lent on in some of them only, and such ways are not joined.
     match name {
         CallName::When => return Ok(Call::When(instant(words)?)),
         CallName::Read => return Ok(Call::Read(note(words, space)?)),

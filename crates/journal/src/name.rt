@@ -63,6 +63,7 @@ impl TryFrom<&[u8]> for CallName {
 }
 
 impl CallName {
+    // The spellings stand here alone.
     fn as_str(self) -> &'static str
         ensures { result.now ≡ spelling self }
     {

@@ -25,6 +25,7 @@ fn bytes<'a>(word: &[u8], space: &'a mut [u8]) -> Option<&'a [u8]>
     if pairs.is_empty() || !odd.is_empty() {
         return None;
     }
+    // By place, since the space is longer than the bytes, and its front is lent on.
     for (i, [high, low]) in pairs.iter().enumerate() {
         space[i] = byte(*high, *low)?;
     }

@@ -3,7 +3,7 @@ ghost use Rattle.std.specs.Prelude.{◌≡◌};
 ghost use Rattle.journal.specs.Refusals.{report as report_of};
 ghost use Rattle.journal.specs.declared.refusal.Refusal.TheVariants.{Note};
 
-use bits::{Layer, Report};
+use bits::Report;
 use notes::NoteFault;
 
 #[derive(Clone, Copy, Debug, PartialEq, Eq)]
@@ -26,11 +26,8 @@ impl Refusal {
         ensures { result ≡ report_of self }
     {
         match self {
-            Refusal::PastCalendar => Report {
-                number: 14,
-                place: 0,
-                layer: Layer::Register,
-            },
+            // The register's number, which no crate below the journal has.
+            Refusal::PastCalendar => Report::in_register(14),
             Refusal::Note(fault) => fault.report(),
         }
     }

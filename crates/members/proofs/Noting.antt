@@ -1,7 +1,7 @@
 -- Noted identities. Assumes nothing.
 use Rattle.std.proofs.Common.{◌≡◌, ℕ, ◌+◌, ◌<◌, ◌≤◌, Bool, true, false, cond, not, ◌&&◌, ◌||◌, List, length, get_or, set, is_some, Some, None, count_by, Option, sym, refl, ap, ◌∙◌, arith}
 use Rattle.std.proofs.lemmas.Bool.{ltb-false, false≢true}
-use Rattle.members.specs.Leavers.{no_leaver, leaver_of, taken, there_is, is_leaver, noted, OnceEach, without_noted}
+use Rattle.members.specs.Leavers.{no_leaver, leaver_of, taken, holds_text, is_leaver, noted, OnceEach, without_noted}
 use Rattle.members.specs.Pairs.{Pairs}
 use Rattle.texts.specs.Same.{same}
 use Rattle.members.specs.declared.leaver_table.Leaver.{Leaver}
@@ -11,12 +11,12 @@ use Rattle.members.proofs.RowLaws.{row_text_holds, row_text_only}
 use Rattle.texts.proofs.Sames.{same_is}
 
 -- an entry holds one identity
-leaver_only : (i j : List ℕ) (x : Option RowText) → there_is i x ≡ true → there_is j x ≡ same j i
+leaver_only : (i j : List ℕ) (x : Option RowText) → holds_text i x ≡ true → holds_text j x ≡ same j i
 leaver_only i j None e = absurd (false≢true e)
 leaver_only i j (Some x) e = row_text_only i j x e
 
 -- an entry that is free notes no identity
-free_has_none : (j : List ℕ) (x : Option RowText) → not (is_some x) ≡ true → there_is j x ≡ false
+free_has_none : (j : List ℕ) (x : Option RowText) → not (is_some x) ≡ true → holds_text j x ≡ false
 free_has_none j None e = refl
 free_has_none j (Some x) e = absurd (false≢true e)
 

@@ -21,13 +21,13 @@ abbrev pub taken : Leaver → Bool
 taken x = is_some x.identity
 
 -- a row is there, and it has the text
-abbrev pub there_is : List ℕ → Option RowText → Bool
-there_is i None = false
-there_is i (Some x) = row_text_is i x
+abbrev pub holds_text : List ℕ → Option RowText → Bool
+holds_text i None = false
+holds_text i (Some x) = row_text_is i x
 
 -- this identity is noted in the entry
 abbrev pub is_leaver : List ℕ → Leaver → Bool
-is_leaver i x = there_is i x.identity
+is_leaver i x = holds_text i x.identity
 
 -- this identity is noted in some entry
 abbrev pub noted : List Leaver → List ℕ → Bool

@@ -2,7 +2,7 @@
 ghost use Rattle.std.specs.Prelude.{◌≡◌};
 ghost use Rattle.bits.specs.declared.fault.Layer.TheVariants.{Register};
 
-use bits::{Layer, Report};
+use bits::Report;
 use texts::Full;
 
 // A token layer or a leavers layer is full: refusal 21 of the register's layer. A type of its own, as `Unlawful` is.
@@ -19,10 +19,6 @@ impl LayerFull {
     pub fn report(self) -> Report
         ensures { result ≡ record { number = 21; place = 0; layer = Register } }
     {
-        Report {
-            number: 21,
-            place: 0,
-            layer: Layer::Register,
-        }
+        Report::in_register(21)
     }
 }

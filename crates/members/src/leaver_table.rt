@@ -42,6 +42,7 @@ impl Leaver {
     }
 }
 
+// A table of fixed size: no call on a layer may fail for want of memory.
 #[derive(Clone, Copy)]
 pub(super) struct LeaverTable {
     entries: [Leaver; MAX_LEAVERS],

@@ -21,10 +21,6 @@ wrote_then {u} {v} {w} {s} {t} h one two =
       lent = two.lent ∙ one.lent;
     }
 
--- what is left of the room for k bits and n more
-pub fits_after : {u v : BitWriter} {s : List ℕ} (k n : ℕ) → length s ≡ k → Wrote u v s → Fits u (k + n) → Fits v n
-fits_after k n l w h = omega (arith, w.moved, w.size)
-
 pub wrote_none : (w : BitWriter) → end w ≤ 8 * length (held w) → Wrote w w []
 wrote_none w h = record {
   room = h;

@@ -125,11 +125,12 @@ impl Constraint for Block {
     ghost sound = { block_sound };
 
     fn admits(&self, v: &Address) -> bool {
-        (self.family == v.family) & self.same_prefix(v.bits)
+        self.family == v.family && self.same_prefix(v.bits)
     }
 
     fn covers(&self, other: &Block) -> bool {
-        (self.prefix <= other.prefix)
-            & ((self.family == other.family) & self.same_prefix(other.address))
+        self.prefix <= other.prefix
+            && self.family == other.family
+            && self.same_prefix(other.address)
     }
 }

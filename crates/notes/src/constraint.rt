@@ -2,7 +2,7 @@
 ghost use Rattle.std.specs.Prelude.{◌≡◌, Bool, true, List, Option};
 ghost use Rattle.std.specs.List.{list_any, list_all};
 ghost use Rattle.std.specs.Option.{option_copied};
-ghost use Rattle.notes.specs.Constraints.{list_admits, list_admits_option, list_covers};
+ghost use Rattle.notes.specs.Constraints.{offered, list_admits, list_admits_option, list_covers};
 
 use super::packed::Packed;
 
@@ -32,7 +32,8 @@ fn one_admits<C: Constraint>(items: &[C], v: &C::Value) -> bool
 
 // Whether a list admits a value, which a request may lack.
 pub fn list_admits<C: Constraint>(items: &[C], v: Option<&C::Value>) -> bool
-    ensures { result ≡ list_admits_option C.admitted items.now (option_copied v.entry) }
+    ensures offered { result ≡ list_admits_option C.admitted items.now (option_copied v.entry) }
+    ensures marked { (there : Bool) (x : C.Value) → option_copied v.entry ≡ offered there x → result ≡ list_admits C.admitted items.now there x }
 {
     match v {
         Some(v) => items.is_empty() | one_admits(items, v),

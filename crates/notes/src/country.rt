@@ -33,7 +33,7 @@ impl Country {
     pub fn is_lawful(&self) -> bool
         ensures { result ≡ country_lawful self.now }
     {
-        self.first.is_ascii_uppercase() & self.second.is_ascii_uppercase()
+        self.first.is_ascii_uppercase() && self.second.is_ascii_uppercase()
     }
 }
 

@@ -28,6 +28,7 @@ impl Family {
     pub(super) fn read(r: &mut BitReader) -> Result<Family, NoteFault>
         ensures { Read family_reads r.old result r.new }
     {
+        // Each number of the field is a family, so that nothing can fail.
         if r.take(1)? == 0 {
             Ok(Family::Four)
         } else {

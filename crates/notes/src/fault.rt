@@ -33,7 +33,8 @@ impl From<BitFault> for NoteFault {
 }
 
 impl NoteFault {
-    // The numbers stand here alone; the report is what every layer passes on.
+    // The numbers of the faults of notes: they are what the product promises, and stand here. A method, since its contract is
+    // what the layers above cite.
     pub fn report(self) -> Report
         ensures { result ≡ report_of self }
     {

@@ -49,6 +49,7 @@ impl EntryKind {
     fn read(r: &mut BitReader) -> Result<EntryKind, NoteFault>
         ensures { Read kind_reads r.old result r.new }
     {
+        // Each number of the field is a kind, so that nothing can fail.
         match r.take(2)? {
             0 => Ok(EntryKind::All),
             1 => Ok(EntryKind::Pattern),
@@ -65,7 +66,7 @@ impl EntryKind {
         let n = r.take(6)?;
         let fits = match self {
             EntryKind::All => n == 0,
-            EntryKind::Pattern | EntryKind::Domain | EntryKind::Standing => (1 <= n) & (n <= 40),
+            EntryKind::Pattern | EntryKind::Domain | EntryKind::Standing => 1 <= n && n <= 40,
         };
         if !fits {
             return Err(NoteFault::Limit { place });

@@ -9,7 +9,8 @@ use super::fault::NoteFault;
 use super::writing::put;
 use bits::{BitReader, BitWriter};
 
-// A set of the numbers below `W`: of its `W` binary digits the first stands for 0.
+// A set of the numbers below `W`: of its `W` binary digits the first stands for 0. That `W` is at most 128 is asked for by the
+// methods and is no invariant, since rows of tables are plain records.
 #[derive(Clone, Copy, Default)]
 pub struct Set<const W: usize> {
     bits: u128,

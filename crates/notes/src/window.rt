@@ -70,14 +70,15 @@ impl ClockSets {
         requires { Valid time }
         ensures { result ≡ clock_admits self.now time }
     {
-        self.seconds.has(time.second) & (self.minutes.has(time.minute) & self.hours.has(time.hour))
+        self.seconds.has(time.second) && self.minutes.has(time.minute) && self.hours.has(time.hour)
     }
 
     fn contains(&self, other: &ClockSets) -> bool
         ensures { result ≡ clock_contains self.now other.now }
     {
         self.seconds.contains(&other.seconds)
-            & (self.minutes.contains(&other.minutes) & self.hours.contains(&other.hours))
+            && self.minutes.contains(&other.minutes)
+            && self.hours.contains(&other.hours)
     }
 }
 
@@ -113,16 +114,18 @@ impl DateSets {
         ensures { result ≡ date_admits self.now time }
     {
         self.days.has(time.day - 1)
-            & (self.months.has(time.month - 1)
-                & (self.weekdays.has(time.weekday) & self.years.has((time.year - 2000) as u8)))
+            && self.months.has(time.month - 1)
+            && self.weekdays.has(time.weekday)
+            && self.years.has((time.year - 2000) as u8)
     }
 
     fn contains(&self, other: &DateSets) -> bool
         ensures { result ≡ date_contains self.now other.now }
     {
         self.days.contains(&other.days)
-            & (self.months.contains(&other.months)
-                & (self.weekdays.contains(&other.weekdays) & self.years.contains(&other.years)))
+            && self.months.contains(&other.months)
+            && self.weekdays.contains(&other.weekdays)
+            && self.years.contains(&other.years)
     }
 }
 
@@ -170,10 +173,10 @@ impl Constraint for Window {
 
     fn admits(&self, v: &Instant) -> bool {
         let time = v.civil();
-        self.clock.admits(time) & self.date.admits(time)
+        self.clock.admits(time) && self.date.admits(time)
     }
 
     fn covers(&self, other: &Window) -> bool {
-        self.clock.contains(&other.clock) & self.date.contains(&other.date)
+        self.clock.contains(&other.clock) && self.date.contains(&other.date)
     }
 }

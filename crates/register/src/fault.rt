@@ -1,11 +1,11 @@
 // Why a call of the register is refused.
 ghost use Rattle.std.specs.Prelude.{◌≡◌, None as NoName};
 ghost use Rattle.notes.specs.Faults.{report as note_report};
-ghost use Rattle.register.specs.Faults.{cause_report, own as own_report, refusal_of, in_note};
+ghost use Rattle.register.specs.Faults.{cause_report, refusal_of, in_note};
 ghost use Rattle.register.specs.declared.fault.Cause.TheVariants.{Note};
 
 use super::rule_name::RuleName;
-use bits::{Layer, Report};
+use bits::Report;
 use notes::NoteFault;
 
 #[derive(Clone, Copy, Debug, PartialEq, Eq)]
@@ -43,30 +43,20 @@ impl From<NoteFault> for Cause {
     }
 }
 
-// A fault of the register itself. The numbers stand in `Cause::report` alone.
-fn own(number: u8) -> Report
-    ensures { result ≡ own_report number }
-{
-    Report {
-        number,
-        place: 0,
-        layer: Layer::Register,
-    }
-}
-
 impl Cause {
+    // The numbers of the register's faults: they are what the product promises, and stand here.
     fn report(self) -> Report
         ensures { result ≡ cause_report self }
     {
         match self {
             Cause::Note(fault) => fault.report(),
-            Cause::TooHigh => own(8),
-            Cause::UnknownTarget => own(9),
-            Cause::Taken => own(10),
-            Cause::Missing => own(11),
-            Cause::Full => own(12),
-            Cause::Instant => own(14),
-            Cause::Country => own(15),
+            Cause::TooHigh => Report::in_register(8),
+            Cause::UnknownTarget => Report::in_register(9),
+            Cause::Taken => Report::in_register(10),
+            Cause::Missing => Report::in_register(11),
+            Cause::Full => Report::in_register(12),
+            Cause::Instant => Report::in_register(14),
+            Cause::Country => Report::in_register(15),
         }
     }
 }

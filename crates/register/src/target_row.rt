@@ -24,6 +24,7 @@ impl TargetRow {
         self.linked.get(policy as usize).copied().unwrap_or(false)
     }
 
+    // `on` is the flag that is written.
     pub(super) fn mark(&mut self, policy: u32, on: bool)
         requires { policy < 64 }
         ensures { self.new.linked ≡ slice_set self.old.linked policy on }

@@ -27,10 +27,6 @@ star_takes : (f : List ℕ → Bool) (w u : List ℕ) → NoSlash w → f u ≡ 
 star_takes f [] u ns e = or_left _ _ e
 star_takes f (c ∷ w) u ns e = or_right _ _ (further_here f c (w ++ u) ns.0 (star_takes f w u ns.1 e))
 
-replaced_star : (p : List ℕ) (rs : List (List ℕ)) → replaced (42 ∷ p) rs ≡ first rs ++ replaced p (others rs)
-unfolding replaced
-replaced_star p rs = refl
-
 replaced_byte : (b : ℕ) (p : List ℕ) (rs : List (List ℕ)) → b ≢ 42 → replaced (b ∷ p) rs ≡ b ∷ replaced p rs
 unfolding replaced
 replaced_byte b p rs h = ap (λ s. cond s (first rs ++ replaced p (others rs)) (b ∷ replaced p rs)) (ne_eqb b 42 h)

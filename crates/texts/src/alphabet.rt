@@ -19,9 +19,9 @@ impl Alphabet {
     {
         let visible = b.is_ascii_graphic();
         match self {
-            Alphabet::Plain => visible & (b != b'/') & (b != b'*'),
-            Alphabet::Starred => visible & (b != b'/'),
-            Alphabet::Slashed => visible & (b != b'*'),
+            Alphabet::Plain => visible && b != b'/' && b != b'*',
+            Alphabet::Starred => visible && b != b'/',
+            Alphabet::Slashed => visible && b != b'*',
         }
     }
 

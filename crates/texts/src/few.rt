@@ -35,6 +35,8 @@ impl<T: Copy + Default, const N: usize> Few<T, N> {
 }
 
 impl<T: Copy + Default, const N: usize> Default for Few<T, N> {
+    ghost is_default = { λ few. listed few ≡ [] };
+
     fn default() -> Few<T, N> {
         Few::new()
     }

@@ -20,7 +20,7 @@ pub use domain::{Domain, DomainGrammar, is_domain};
 pub use few::{Few, Full};
 pub use full_form::FullForm;
 pub use grammar::Grammar;
-pub use identity::{Identity, IdentityGrammar, grammar_of_identities};
+pub use identity::{Identity, IdentityGrammar, grammar_of_identities, is_identity};
 pub use matching::{
     domain_covers, domain_matches, matching_is_replacing, pattern_covers, pattern_matches,
 };

@@ -45,10 +45,7 @@ pub fn pattern_matches(home: &Domain, pattern: &[u8], text: &[u8]) -> bool
 pub fn pattern_covers(home: &Domain, pattern: &[u8], other: &[u8]) -> bool
     ensures { result ≡ pattern_covers (text_of home.now) pattern.now other.now }
 {
-    match FullForm::new(home, other) {
-        Some(form) => pattern_matches(home, pattern, form.as_bytes()),
-        None => false,
-    }
+    FullForm::new(home, other).is_some_and(|form| pattern_matches(home, pattern, form.as_bytes()))
 }
 
 // Whether the text belongs to the domain: it begins with '//', the domain and '/'.
@@ -65,10 +62,7 @@ pub fn domain_matches(domain: &[u8], text: &[u8]) -> bool
 pub fn domain_covers(home: &Domain, domain: &[u8], pattern: &[u8]) -> bool
     ensures { result ≡ domain_covers (text_of home.now) domain.now pattern.now }
 {
-    match FullForm::new(home, pattern) {
-        Some(form) => domain_matches(domain, form.as_bytes()),
-        None => false,
-    }
+    FullForm::new(home, pattern).is_some_and(|form| domain_matches(domain, form.as_bytes()))
 }
 
 // A pattern matches exactly the texts that come of it when each star is replaced by zero or more bytes other than '/'.

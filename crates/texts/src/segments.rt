@@ -1,5 +1,7 @@
 // Segments, and paths of segments between slashes.
-ghost use Rattle.std.specs.Prelude.{◌≡◌, ◌+◌, true, false, ◌&&◌, ◌∷◌, if◌then◌else◌, MatchOption, nat_eq, nat_le};
+ghost use Rattle.std.specs.Prelude.{◌≡◌, true, false, ◌∷◌, length, MatchOption};
+ghost use Rattle.std.specs.List.{list_all};
+ghost use Rattle.texts.specs.Pieces.{pieces};
 ghost use Rattle.texts.specs.Texts.{segment, path, slash_then};
 ghost use Rattle.texts.specs.Alphabets.{allowed};
 
@@ -14,37 +16,26 @@ pub(super) fn is_segment(text: &[u8], alphabet: Alphabet) -> bool
     !text.is_empty() & alphabet.has_all(text)
 }
 
-// Whether the byte may come next in a path; `inside` says that the last one belongs to a segment.
-// No segment is empty, so a slash comes only behind a segment.
-fn may_stand(b: u8, inside: bool, alphabet: Alphabet) -> bool
-    ensures { result ≡ (if nat_eq b 47 then inside else allowed alphabet b) }
+fn count_segments(text: &[u8]) -> usize
+    ensures { result ≡ length (pieces 47 text.now) }
 {
-    if b == SLASH { inside } else { alphabet.has(b) }
+    text.split(|b| *b == SLASH).count()
 }
 
-// Whether a path with so many slashes has `least` to `most` segments: it has one more than slashes.
-fn has_segments(slashes: usize, least: usize, most: usize) -> bool
-    ensures { result ≡ (nat_le least (slashes + 1) && nat_le (slashes + 1) most) }
+fn all_segments(text: &[u8], alphabet: Alphabet) -> bool
+    ensures { result ≡ list_all (segment (allowed alphabet)) (pieces 47 text.now) }
 {
-    slashes < most && least <= slashes + 1
+    text.split(|b| *b == SLASH)
+        .all(|piece| is_segment(piece, alphabet))
 }
 
 // Whether the text is `least` to `most` segments, joined by single slashes.
+#[tactic(auto, unfolding(crate::specs::Texts::path))]
 pub(super) fn is_path(text: &[u8], alphabet: Alphabet, least: usize, most: usize) -> bool
     ensures { result ≡ path (allowed alphabet) least most text.now }
 {
-    let mut slashes = 0;
-    let mut inside = false;
-    for b in text {
-        if !may_stand(*b, inside, alphabet) {
-            return false;
-        }
-        inside = *b != SLASH;
-        if !inside {
-            slashes += 1;
-        }
-    }
-    inside & has_segments(slashes, least, most)
+    let count = count_segments(text);
+    least <= count && count <= most && all_segments(text, alphabet)
 }
 
 // What stands behind the slash at the front of the text, if there is one.
@@ -52,7 +43,7 @@ pub(super) fn behind_slash(text: &[u8]) -> Option<&[u8]>
     ensures { MatchOption result (slash_then (λ _. true) text.now ≡ false) (λ rest. text.now ≡ 47 ∷ rest.now) }
 {
     match text {
-        [b'/', rest @ ..] => Some(rest),
+        [SLASH, rest @ ..] => Some(rest),
         _ => None,
     }
 }

@@ -1,5 +1,5 @@
 // Texts of a kind.
-ghost use Rattle.std.specs.Prelude.{◌≡◌, true};
+ghost use Rattle.std.specs.Prelude.{◌≡◌, true, ⊤};
 ghost use Rattle.texts.specs.Few.{listed};
 ghost use Rattle.texts.specs.Texts.{lawful_text};
 
@@ -21,6 +21,10 @@ impl<G: Grammar, const N: usize> Copy for Text<G, N> {}
 
 // By hand, since no derive reaches a ghost field of a generic struct.
 impl<G: Grammar, const N: usize> Clone for Text<G, N> {
+    ghost is_clone = { λ x y. y ≡ x };
+
+    ghost is_infallible = { λ _. ⊤ };
+
     fn clone(&self) -> Result<Text<G, N>, AllocError> {
         Ok(*self)
     }

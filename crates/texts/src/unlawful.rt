@@ -3,7 +3,7 @@ ghost use Rattle.std.specs.Prelude.{◌≡◌};
 ghost use Rattle.bits.specs.declared.fault.Layer.TheVariants.{Register};
 
 use super::few::Full;
-use bits::{Layer, Report};
+use bits::Report;
 
 // The bytes are no lawful text: refusal 13 of the register's layer. A type of its own, and not one with the number as a
 // parameter, since an alias of such a type cannot be written as a value.
@@ -21,10 +21,6 @@ impl Unlawful {
     pub fn report(self) -> Report
         ensures { result ≡ record { number = 13; place = 0; layer = Register } }
     {
-        Report {
-            number: 13,
-            place: 0,
-            layer: Layer::Register,
-        }
+        Report::in_register(13)
     }
 }

@@ -11,7 +11,8 @@ impl Context {
         ensures { result ≡ (none (listed self.now.windows) && (none (listed self.now.blocks) && none (listed self.now.countries))) }
     {
         self.windows.as_slice().is_empty()
-            & (self.blocks.as_slice().is_empty() & self.countries.as_slice().is_empty())
+            && self.blocks.as_slice().is_empty()
+            && self.countries.as_slice().is_empty()
     }
 }
 

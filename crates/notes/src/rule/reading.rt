@@ -27,6 +27,7 @@ impl Head {
         let contexts = read_count(r, 2, 0, 2)?;
         let child_types = read_count(r, 3, 0, 4)?;
         Ok(Head {
+            // Each number of the field is a side, so that nothing can fail.
             side: if side == 0 {
                 Side::Privileges
             } else {

@@ -79,8 +79,8 @@ impl Rule {
         size as usize
     }
 
-    // The buffer is an array, so that it is long enough by its type and writing cannot fail.
-    // Fills the front of the buffer with the rule's note, leaves the rest, and answers the note's length.
+    // Fills the front of the buffer with the rule's note, leaves the rest, and answers the note's length. The buffer is an array,
+    // so that it is long enough by its type and writing cannot fail.
     pub fn write(&self, out: &mut [u8; 615]) -> usize
         ensures { Filled (rule_note self.now) out.old out.new result }
     {

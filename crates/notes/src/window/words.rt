@@ -86,7 +86,8 @@ impl<const W: usize> Set<W> {
         Ok(())
     }
 
-    // The set if it is not full, behind a blank if `any` was written before. Answers whether any is written now.
+    // The set if it is not full, behind a blank if `any` was written before. Answers whether any is written now, which goes on
+    // from set to set: seven sets of five types are no list that could be joined.
     fn write_words<F: fmt::Write>(
         &self,
         any: bool,

@@ -70,7 +70,7 @@ impl Register {
         self.is_eligible(rule, target) && rule.view().admits(&self.home, request, members)
     }
 
-    // Looks at each used row once.
+    // Looks at each used row once. Target, request and member list have three owners, and are passed on as they come.
     fn survey<L: MemberList>(
         &self,
         target: Target,

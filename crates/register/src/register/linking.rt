@@ -16,7 +16,7 @@ impl Register {
         (target as usize) < self.targets.len().min(USED_TARGETS)
     }
 
-    // Enters the link, or takes it away.
+    // Enters the link, or takes it away: `on` is the flag that is written.
     fn set_link(&mut self, target: u32, policy: u32, on: bool) -> Result<(), RegisterFault>
         ensures { LinkSet on target policy (tables self.old) (done result) (tables self.new) }
     {
