@@ -50,11 +50,9 @@ fn lay_bytes(out: &mut [u8], start: u128, text: &[u8])
     ensures field { bits out.new ≡ laid (bits out.old) start (bits text.now) }
     ensures behind { (k : ℕ) → start + 8 * length text.now ≤ 8 * k → drop k out.new ≡ drop k out.old }
 {
-    // `at` has more bits than an index of the text.
-    let mut at = start;
-    for b in text {
+    for (i, b) in text.iter().enumerate() {
+        let at = start + i as u128 * 8;
         lay(out, at, 8, *b as u128);
-        at += 8;
     }
 }
 

@@ -30,7 +30,7 @@ pub use operation::Operation;
 pub use originator::{EntryKind, Originator};
 pub use packed::Packed;
 pub use refusals::refusals_name_the_first_field;
-pub use rule::{PlainRule, Rule, RuleParts, Side, originator_text};
+pub use rule::{MAX_NOTE, PlainRule, Rule, RuleParts, Side, originator_text};
 pub use window::Window;
 
 // The texts that notes name, for callers of notes alone.

@@ -17,6 +17,9 @@ mod writing;
 
 pub use note::originator_text;
 
+// The bytes of the longest note.
+pub const MAX_NOTE: usize = 615;
+
 #[derive(Clone, Copy, PartialEq, Eq, Debug)]
 pub enum Side {
     Privileges,
@@ -48,7 +51,7 @@ pub struct RuleParts {
 // A rule as a row of a table holds it: the note and the parts, with no promise that they belong together.
 #[derive(Clone, Copy)]
 pub struct PlainRule {
-    note: Few<u8, 615>,
+    note: Few<u8, MAX_NOTE>,
     parts: RuleParts,
 }
 

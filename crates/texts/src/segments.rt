@@ -7,7 +7,7 @@ ghost use Rattle.texts.specs.Alphabets.{allowed};
 
 use super::alphabet::Alphabet;
 
-const SLASH: u8 = b'/';
+pub(super) const SLASH: u8 = b'/';
 
 // Whether the text has a byte, and each of its bytes is in the alphabet.
 pub(super) fn is_segment(text: &[u8], alphabet: Alphabet) -> bool

@@ -9,7 +9,7 @@ ghost use Rattle.notes.specs.Told.{Fits};
 
 use super::super::lists::write_list;
 use super::super::writing::put;
-use super::{Head, Rule, RuleParts, Side};
+use super::{Head, MAX_NOTE, Rule, RuleParts, Side};
 use bits::BitWriter;
 
 // The number of a side in its field.
@@ -81,7 +81,7 @@ impl Rule {
 
     // Fills the front of the buffer with the rule's note, leaves the rest, and answers the note's length. The buffer is an array,
     // so that it is long enough by its type and writing cannot fail.
-    pub fn write(&self, out: &mut [u8; 615]) -> usize
+    pub fn write(&self, out: &mut [u8; MAX_NOTE]) -> usize
         ensures { Filled (rule_note self.now) out.old out.new result }
     {
         self.write_to(out)

@@ -4,9 +4,8 @@ ghost use Rattle.std.specs.Prelude.{◌≡◌, false, ◌≢◌, [], ◌∷◌, 
 ghost use Rattle.texts.specs.Matching.{matches as matches_text};
 ghost use Rattle.texts.specs.Walks.{Sound, Stepped, Lengthened};
 
+use super::super::segments::SLASH;
 use std::ops::ControlFlow;
-
-const SLASH: u8 = b'/';
 
 const STAR: u8 = b'*';
 
