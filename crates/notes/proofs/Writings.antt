@@ -6,7 +6,6 @@ use Rattle.bits.specs.declared.writer.BitWriter.{BitWriter}
 use Rattle.bits.specs.Digits.{laid}
 use Rattle.bits.specs.Writer.{held, target, end, Wrote}
 use Rattle.bits.proofs.DigitLaws.{length_bits}
-use Rattle.notes.specs.Told.{Fits}
 use Rattle.bits.proofs.Laying.{laid_nothing, laid_laid}
 
 pub wrote_then : {u v w : BitWriter} {s t : List ℕ} → end u ≤ 8 * length (held u) → Wrote u v s → Wrote v w t → Wrote u w (s ++ t)

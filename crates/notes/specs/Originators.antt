@@ -1,5 +1,5 @@
 -- Originator entries. Assumes nothing.
-use Rattle.std.specs.Prelude.{ℕ, ◌^◌, Bool, true, cond, ◌&&◌, List, ◌++◌, length, take, drop, ◌==◌, nat_lt}
+use Rattle.std.specs.Prelude.{ℕ, ◌^◌, Bool, true, cond, ◌&&◌, List, [], ◌++◌, length, take, drop, ◌==◌, nat_lt}
 use Rattle.std.specs.List.{list_all}
 use Rattle.bits.specs.Digits.{digits, bits}
 use Rattle.bits.specs.Codec.{Reads, field, text}
@@ -8,6 +8,8 @@ use Rattle.notes.specs.Readings.{guard, seq, made}
 use Rattle.texts.specs.Texts.{pattern, domain, standing}
 use Rattle.notes.specs.declared.originator.EntryKind.{EntryKind}
 use Rattle.notes.specs.declared.originator.EntryKind.TheVariants.{All, Pattern, Domain, Standing}
+use Rattle.notes.specs.declared.originator.Entry.{Entry}
+use Rattle.notes.specs.declared.originator.Entry.TheVariants.{All as AllEntry, Pattern as PatternEntry, Domain as DomainEntry, Standing as StandingEntry}
 use Rattle.notes.specs.declared.originator.Originator.{Originator}
 
 -- what an originator entry says: `all` has the empty text
@@ -19,8 +21,26 @@ pub record OriginatorValue : Type 0 where
 abbrev pub part : List ℕ → ℕ → ℕ → List ℕ
 part note place len = take len (drop place note)
 
+abbrev pub entry_kind : Entry → EntryKind
+entry_kind AllEntry = All
+entry_kind (PatternEntry place len) = Pattern
+entry_kind (DomainEntry place len) = Domain
+entry_kind (StandingEntry place len) = Standing
+
+abbrev pub entry_text : List ℕ → Entry → List ℕ
+entry_text note AllEntry = []
+entry_text note (PatternEntry place len) = part note place len
+entry_text note (DomainEntry place len) = part note place len
+entry_text note (StandingEntry place len) = part note place len
+
+abbrev pub kind_entry : EntryKind → ℕ → ℕ → Entry
+kind_entry All place len = AllEntry
+kind_entry Pattern place len = PatternEntry place len
+kind_entry Domain place len = DomainEntry place len
+kind_entry Standing place len = StandingEntry place len
+
 abbrev pub originator_of : List ℕ → Originator → OriginatorValue
-originator_of note o = record { kind = o.kind; text = part note o.place o.len }
+originator_of note o = record { kind = entry_kind o.entry; text = entry_text note o.entry }
 
 -- the number of a kind in its field
 abbrev pub code : EntryKind → ℕ

@@ -10,7 +10,9 @@ use Rattle.bits.specs.Faults.{ended}
 use Rattle.bits.specs.Codec.{field, text, bytes_of, Bytes, Lawful}
 use Rattle.bits.proofs.DigitLaws.{length_digits, length_bits}
 use Rattle.bits.proofs.Codecs.{ok_only, lawful_field, lawful_text}
-use Rattle.notes.specs.Originators.{OriginatorValue, code, coded, length_lawful, text_lawful, kind_reads, length_reads, text_reads, is_byte, originator_lawful, originator_form, originator_reads, part}
+use Rattle.notes.specs.Originators.{OriginatorValue, code, coded, length_lawful, text_lawful, kind_reads, length_reads, text_reads, is_byte, originator_of, originator_lawful, originator_form, originator_reads, kind_entry, entry_text, part}
+use Rattle.notes.specs.declared.originator.Entry.{Entry}
+use Rattle.notes.specs.declared.originator.Entry.TheVariants.{All as AllEntry, Pattern as PatternEntry, Domain as DomainEntry, Standing as StandingEntry}
 use Rattle.notes.specs.declared.originator.EntryKind.{EntryKind}
 use Rattle.notes.specs.declared.originator.EntryKind.TheVariants.{All, Pattern, Domain, Standing}
 use Rattle.texts.proofs.Bools.{both_true, and_true}
@@ -33,6 +35,14 @@ text_end k n ds p t q e =
 
 pub length_kept : (k : EntryKind) (ds : List ℕ) (p n q : ℕ) → length_reads k ds p ≡ Ok (n, q) → length_lawful k n ≡ true
 length_kept k ds p n q e = (checked_ok (length_lawful k) 2 p (field 6 ds p) n q e).1
+
+-- `all` has no text, and the others have theirs
+pub entry_says : (k : EntryKind) (note : List ℕ) (place n : ℕ) → length_lawful k n ≡ true
+    → originator_of note (record { entry = kind_entry k place n }) ≡ record { kind = k; text = part note place n }
+entry_says All note place n l = λ i. record { kind = All; text = part note place (sym (eqb-true n 0 l) i) }
+entry_says Pattern note place n l = refl
+entry_says Domain note place n l = refl
+entry_says Standing note place n l = refl
 
 code_below : (k : EntryKind) → code k < 2 ^ 2
 code_below All = omega arith
@@ -93,6 +103,9 @@ take_taken n xs =
     (λ (all : length xs ≤ n). let e = take_all n xs all in e ∙ sym (ap (λ l. take (length l) xs) e ∙ take_all (length xs) xs (omega arith)))
     (cases_lt n (length xs))
 
--- a text stands at its place of the note
-pub part_place : (note : List ℕ) (place len : ℕ) → part note place len ≡ take (length (part note place len)) (drop place note)
-part_place note place len = take_taken len (drop place note)
+-- a text stands at a place of the note
+pub text_place : (note : List ℕ) (e : Entry) → (place : ℕ) × (entry_text note e ≡ take (length (entry_text note e)) (drop place note))
+text_place note AllEntry = (0, refl)
+text_place note (PatternEntry place len) = (place, take_taken len (drop place note))
+text_place note (DomainEntry place len) = (place, take_taken len (drop place note))
+text_place note (StandingEntry place len) = (place, take_taken len (drop place note))

@@ -2,7 +2,7 @@
 ghost use Rattle.std.specs.Prelude.{◌≡◌, ◌+◌, ◌/◌, ◌%◌, ◌<◌, length, IfOk, OnOk};
 ghost use Rattle.bits.specs.Reader.{bytes, source, place, Part};
 ghost use Rattle.bits.specs.Writer.{Wrote};
-ghost use Rattle.notes.specs.Originators.{OriginatorValue, originator_of, originator_form, originator_reads, kind_reads, length_reads, text_reads, text_lawful, code as code_of, part};
+ghost use Rattle.notes.specs.Originators.{OriginatorValue, originator_of, originator_form, originator_reads, kind_reads, length_reads, text_reads, text_lawful, code as code_of, part, entry_kind, entry_text, kind_entry};
 ghost use Rattle.notes.specs.Told.{Read, ReadAs, Fits};
 
 use super::fault::NoteFault;
@@ -23,12 +23,19 @@ pub enum EntryKind {
 }
 
 // The place is the number of the text's first byte in the note. A slice of the note would tie a rule to a borrowed note, and
-// a rule keeps its own.
+// a rule keeps its own. One place and length beside a kind would be no plainer: `all` would have a place that means nothing.
+#[derive(Clone, Copy, Default, PartialEq, Eq, Debug)]
+enum Entry {
+    #[default]
+    All,
+    Pattern { place: usize, len: usize },
+    Domain { place: usize, len: usize },
+    Standing { place: usize, len: usize },
+}
+
 #[derive(Clone, Copy, Default)]
 pub struct Originator {
-    kind: EntryKind,
-    place: usize,
-    len: usize,
+    entry: Entry,
 }
 
 // The number of a kind in its field.
@@ -100,6 +107,43 @@ impl EntryKind {
     }
 }
 
+impl Entry {
+    // An entry of this kind, with its text at a place of the note.
+    fn new(kind: EntryKind, place: usize, len: usize) -> Entry
+        ensures { result ≡ kind_entry kind place len }
+    {
+        match kind {
+            EntryKind::All => Entry::All,
+            EntryKind::Pattern => Entry::Pattern { place, len },
+            EntryKind::Domain => Entry::Domain { place, len },
+            EntryKind::Standing => Entry::Standing { place, len },
+        }
+    }
+
+    fn kind(self) -> EntryKind
+        ensures { result ≡ entry_kind self }
+    {
+        match self {
+            Entry::All => EntryKind::All,
+            Entry::Pattern { .. } => EntryKind::Pattern,
+            Entry::Domain { .. } => EntryKind::Domain,
+            Entry::Standing { .. } => EntryKind::Standing,
+        }
+    }
+
+    // The text, as a part of the note.
+    fn text(self, note: &[u8]) -> &[u8]
+        ensures { result.now ≡ entry_text note.now self }
+    {
+        match self {
+            Entry::All => &[],
+            Entry::Pattern { place, len }
+            | Entry::Domain { place, len }
+            | Entry::Standing { place, len } => part_of(note, place, len),
+        }
+    }
+}
+
 // At most `len` bytes from `place` on, as far as the note has them.
 fn part_of(note: &[u8], place: usize, len: usize) -> &[u8]
     ensures { result.now ≡ part note.now place len }
@@ -111,16 +155,16 @@ fn part_of(note: &[u8], place: usize, len: usize) -> &[u8]
 
 impl Originator {
     pub fn kind(&self) -> EntryKind
-        ensures { result ≡ self.now.kind }
+        ensures { result ≡ entry_kind self.now.entry }
     {
-        self.kind
+        self.entry.kind()
     }
 
     // The text, as a part of the note.
     pub fn text<'a>(&self, note: &'a [u8]) -> &'a [u8]
         ensures { result.now ≡ (originator_of note.now self.now).text }
     {
-        part_of(note, self.place, self.len)
+        self.entry.text(note)
     }
 }
 
@@ -141,13 +185,15 @@ impl Item for Originator {
         let len = kind.read_length(r)?;
         let place = (r.place() / 8) as usize;
         kind.read_text(r, len)?;
-        Ok(Originator { kind, place, len })
+        Ok(Originator {
+            entry: Entry::new(kind, place, len),
+        })
     }
 
     #[tactic(auto, using(crate::proofs::Room::room))]
     fn write_item(&self, note: &[u8], w: &mut BitWriter) {
         let text = self.text(note);
-        put(w, 2, u128::from(self.kind));
+        put(w, 2, u128::from(self.kind()));
         put(w, 6, text.len() as u128);
         put_bytes(w, text);
     }

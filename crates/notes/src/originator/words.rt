@@ -12,7 +12,7 @@ pub(crate) struct InNote<'a> {
 impl Originator {
     pub(crate) fn in_note<'a>(&self, note: &'a [u8]) -> InNote<'a> {
         InNote {
-            kind: self.kind,
+            kind: self.kind(),
             text: self.text(note),
         }
     }

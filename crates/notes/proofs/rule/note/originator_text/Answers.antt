@@ -3,9 +3,9 @@ use Rattle.std.proofs.lemmas.List.{get_or-map, length-map}
 use Rattle.texts.specs.Few.{listed}
 use Rattle.notes.specs.Notes.{TextOf, NoText}
 use Rattle.notes.specs.Originators.{originator_of}
-use Rattle.notes.specs.OriginatorsLemmas.{part_place}
+use Rattle.notes.specs.OriginatorsLemmas.{text_place}
 use Rattle.notes.specs.Rules.{note_reads, rule_of}
-use Rattle.notes.specs.declared.originator.EntryKind.TheVariants.{All}
+use Rattle.notes.specs.declared.originator.Entry.TheVariants.{All}
 use Rattle.notes.specs.declared.originator.Originator.{Originator}
 use Rattle.notes.specs.declared.rule.RuleParts.{RuleParts}
 use Rattle.notes.proofs.rule.note.originator_text.Goals as goal
@@ -17,14 +17,14 @@ told : (note : List ℕ) (p : RuleParts) (i : ℕ) → note_reads note ≡ Ok (r
 told note p i read None none = (rule_of note p, read, omega (arith, length-map (listed p.originators) (originator_of note)))
 told note p i read (Some t) (there, says) =
     let items = listed p.originators in
-    let spare : Originator = record { kind = All; place = 0; len = 0 } in
-    let o = get_or items i spare in (
+    let spare : Originator = record { entry = All } in
+    let spot = text_place note (get_or items i spare).entry in (
       rule_of note p,
-      o.place,
+      spot.0,
       read,
       omega (arith, length-map items (originator_of note)),
       (λ d. ap (λ v. v.text) (get_or-map (originator_of note) items i spare d there) ∙ says spare),
-      subst (λ x. x ≡ take (length x) (drop o.place note)) (says spare) (part_place note o.place o.len),
+      subst (λ x. x ≡ take (length x) (drop spot.0 note)) (says spare) spot.1,
     )
 
 pub returns : goal.returns
