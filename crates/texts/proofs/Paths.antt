@@ -1,10 +1,12 @@
 -- A path, read byte by byte. Assumes nothing.
-use Rattle.std.proofs.Common.{◌≡◌, ℕ, suc, ◌+◌, ◌<◌, Bool, true, false, cond, not, ◌&&◌, ◌||◌, eqb, leb, List, [], ◌∷◌, length, get_or, drop, sym, refl, ap, ◌∙◌, zero-add, arith}
+use Rattle.std.proofs.Common.{◌≡◌, ℕ, suc, ◌+◌, Bool, true, false, cond, not, ◌&&◌, ◌||◌, eqb, leb, List, [], ◌∷◌, length, ltb, ◌≤◌, Some, None, Option, MatchOption, sym, refl, ap, ◌∙◌, subst, zero-add, arith}
 use mathlib.Core.Bool.{and-true, and-false, and_assoc}
-use Rattle.std.proofs.lemmas.List.{at_drop_more}
+use Rattle.std.proofs.lemmas.Bool.{ltb-false, lt-leb}
 use Rattle.std.specs.List.{list_all}
 use Rattle.texts.specs.Lists.{none}
 use Rattle.texts.specs.Pieces.{pieces, in_front}
+use Rattle.texts.specs.PathFronts.{extended}
+use Rattle.texts.specs.declared.segments.PathFront.{PathFront}
 use Rattle.texts.specs.Texts.{segment, path}
 use Rattle.texts.proofs.PieceLaws.{pieces_there, length_in_front}
 
@@ -64,21 +66,37 @@ onward_byte ok low high n inside b t =
       | false ↦ (λ i. within low high (n + length_in_front b ps h.0 h.1 h.2 i) && opened_byte ok inside b ps i) ∙ swapped _ (ok b) _
     ]
 
-module _ (ok : ℕ → Bool) (low high n : ℕ) (inside : Bool) (xs : List ℕ) (i : ℕ) (there : i < length xs) where
-  abbrev stands : Bool
-  stands = cond (eqb (get_or xs i 0) 47) inside (ok (get_or xs i 0))
+-- a slash too many
+too_many : (ok : ℕ → Bool) (low high n : ℕ) (inside : Bool) (t : List ℕ) → ltb n high ≡ false → onward ok low high (n + 1) inside t ≡ false
+unfolding onward
+too_many ok low high n inside t e =
+    let h : high ≤ n = ltb-false n high e in
+    let over : leb (n + 1 + length (pieces 47 t)) high ≡ false = lt-leb _ _ (omega arith) in
+    rw over (ap (λ s. s && opened ok inside (pieces 47 t)) (and-false _))
 
-  abbrev rest : ℕ → Bool
-  rest m = onward ok low high m (not (eqb (get_or xs i 0) 47)) (drop (i + 1) xs)
+-- what is left decides whether the whole is a path
+abbrev pub Sofar : (ℕ → Bool) → ℕ → ℕ → Bool → List ℕ → PathFront → Type 0
+Sofar ok low high whole t r = onward ok low high r.slashes r.inside t ≡ whole
 
-  onward_more : onward ok low high n inside (drop i xs) ≡ (stands && rest (cond (eqb (get_or xs i 0) 47) (n + 1) n))
-  onward_more = at_drop_more (onward ok low high n inside) xs i 0 there ∙ onward_byte ok low high n inside (get_or xs i 0) (drop (i + 1) xs)
+abbrev Turn : (ℕ → Bool) → ℕ → ℕ → Bool → ℕ → PathFront → Option PathFront → Type 0
+Turn ok low high whole b r next =
+    MatchOption next ((t : List ℕ) → Sofar ok low high whole (b ∷ t) r → whole ≡ false) (λ s. (t : List ℕ) → Sofar ok low high whole (b ∷ t) r → Sofar ok low high whole t s)
 
-  pub onward_stops : false ≡ stands → onward ok low high n inside (drop i xs) ≡ false
-  onward_stops e = onward_more ∙ ap (λ s. s && rest (cond (eqb (get_or xs i 0) 47) (n + 1) n)) (sym e)
+-- a byte that may stand goes on with the next front, and any other ends it
+pub turn : (ok : ℕ → Bool) (low high : ℕ) (whole : Bool) (b : ℕ) (r : PathFront) (next : Option PathFront) → next ≡ extended ok high b r → Turn ok low high whole b r next
+turn ok low high whole b r next e = subst (Turn ok low high whole b r) (sym e) (at (eqb b 47) (ok b) r.inside (ltb r.slashes high) refl refl refl refl)
+  where
+    more : (t : List ℕ) → Sofar ok low high whole (b ∷ t) r → (cond (eqb b 47) r.inside (ok b) && onward ok low high (cond (eqb b 47) (r.slashes + 1) r.slashes) (not (eqb b 47)) t) ≡ whole
+    more t h = sym (onward_byte ok low high r.slashes r.inside b t) ∙ h
 
-  pub onward_goes : (m : ℕ) → true ≡ stands → m ≡ cond (eqb (get_or xs i 0) 47) (n + 1) n → rest m ≡ onward ok low high n inside (drop i xs)
-  onward_goes m e k = (λ j. e j && rest (k j)) ∙ sym onward_more
+    at :
+        (s o i l : Bool) → eqb b 47 ≡ s → ok b ≡ o → r.inside ≡ i → ltb r.slashes high ≡ l
+        → Turn ok low high whole b r (cond s (cond i (cond l (Some (record { slashes = r.slashes + 1; inside = false })) None) None) (cond o (Some (record { slashes = r.slashes; inside = true })) None))
+    at true o true true es eo ei el = λ t h. (λ k. sym ei k && onward ok low high (r.slashes + 1) false t) ∙ rw es at (more t h)
+    at true o true false es eo ei el = λ t h. sym (rw es at (more t h)) ∙ (λ k. r.inside && too_many ok low high r.slashes false t el k) ∙ and-false r.inside
+    at true o false l es eo ei el = λ t h. sym (rw es at (more t h)) ∙ ap (λ x. x && onward ok low high (r.slashes + 1) false t) ei
+    at false true i l es eo ei el = λ t h. (λ k. sym eo k && onward ok low high r.slashes true t) ∙ rw es at (more t h)
+    at false false i l es eo ei el = λ t h. sym (rw es at (more t h)) ∙ ap (λ x. x && onward ok low high r.slashes true t) eo
 
 -- a path does not begin with a slash
 pub no_path : (ok : ℕ → Bool) (low high : ℕ) (t : List ℕ) → path ok low high (47 ∷ t) ≡ false

@@ -2,6 +2,7 @@
 ghost use Rattle.std.specs.Prelude.{◌≡◌, ◌+◌, true, false, ◌&&◌, ◌∷◌, if◌then◌else◌, MatchOption, nat_eq, nat_le};
 ghost use Rattle.texts.specs.Texts.{segment, path, slash_then};
 ghost use Rattle.texts.specs.Alphabets.{allowed};
+ghost use Rattle.texts.specs.PathFronts.{extended};
 
 use super::alphabet::Alphabet;
 
@@ -29,23 +30,53 @@ fn has_segments(slashes: usize, least: usize, most: usize) -> bool
     slashes < most && least <= slashes + 1
 }
 
+// The front of a path: its slashes, and whether a byte of a segment stands behind the last of them.
+#[derive(Clone, Copy)]
+struct PathFront {
+    slashes: usize,
+    inside: bool,
+}
+
+impl PathFront {
+    // With the byte that comes next, if it may stand there and no slash is too many.
+    fn extended(self, b: u8, alphabet: Alphabet, most: usize) -> Option<PathFront>
+        ensures { result ≡ extended (allowed alphabet) most b self }
+    {
+        if !may_stand(b, self.inside, alphabet) {
+            return None;
+        }
+        if b != SLASH {
+            return Some(PathFront {
+                slashes: self.slashes,
+                inside: true,
+            });
+        }
+        if self.slashes >= most {
+            return None;
+        }
+        Some(PathFront {
+            slashes: self.slashes + 1,
+            inside: false,
+        })
+    }
+}
+
 // Whether the text is `least` to `most` segments, joined by single slashes. One pass, which ends at the first byte that
 // may not stand.
 pub(super) fn is_path(text: &[u8], alphabet: Alphabet, least: usize, most: usize) -> bool
     ensures { result ≡ path (allowed alphabet) least most text.now }
 {
-    let mut slashes = 0;
-    let mut inside = false;
-    for b in text {
-        if !may_stand(*b, inside, alphabet) {
-            return false;
-        }
-        inside = *b != SLASH;
-        if !inside {
-            slashes += 1;
-        }
+    let start = PathFront {
+        slashes: 0,
+        inside: false,
+    };
+    let front = text
+        .iter()
+        .try_fold(start, |front, b| front.extended(*b, alphabet, most));
+    match front {
+        Some(front) => front.inside & has_segments(front.slashes, least, most),
+        None => false,
     }
-    inside & has_segments(slashes, least, most)
 }
 
 // What stands behind the slash at the front of the text, if there is one.
