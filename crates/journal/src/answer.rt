@@ -1,8 +1,9 @@
 // What a call is answered.
-ghost use Rattle.std.specs.Prelude.{◌≤◌, length, MatchResult};
-ghost use Rattle.journal.specs.Answers.{Answered, Replied};
+ghost use Rattle.std.specs.Prelude.{◌≡◌, ◌≤◌, length};
+ghost use Rattle.journal.specs.Answers.{when_answer, ReadAnswer, WriteAnswer, Answered, Replied};
 ghost use Rattle.journal.specs.Refusals.{report};
 ghost use Rattle.journal.specs.declared.answer.Answer.TheVariants.{Refused};
+ghost use Rattle.notes.specs.Rules.{note_reads};
 ghost use Rattle.texts.specs.Pieces.{pieces};
 
 use crate::call::Call;
@@ -35,27 +36,48 @@ impl Answer {
         }
     }
 
+    // Each kind of call has a function of its own: one for all would make room for a rule and a note at an instant too.
     fn of_call(call: Call) -> Answer
         ensures { Answered call.entry result }
     {
-        match Answer::accepted(call) {
-            Ok(answer) => answer,
-            Err(refusal) => Answer::Refused(refusal.report()),
+        match call {
+            Call::When(seconds) => Answer::of_when(seconds),
+            Call::Read(note) => Answer::of_read(note),
+            Call::Write(note) => Answer::of_write(note),
         }
     }
 
-    // The answer to a call that is not refused.
-    fn accepted(call: Call) -> Result<Answer, Refusal>
-        ensures { MatchResult result (λ answer. Answered call.entry answer) (λ refusal. Answered call.entry (Refused (report refusal))) }
+    fn of_when(seconds: u32) -> Answer
+        ensures { result ≡ when_answer seconds }
     {
-        match call {
-            Call::When(seconds) => {
-                let instant = Instant::new(seconds).ok_or(Refusal::PastCalendar)?;
-                Ok(Answer::Civil(instant.civil()))
-            }
-            Call::Read(note) => Ok(Answer::Rule(Rule::read(note)?)),
-            Call::Write(note) => Ok(Answer::Note(Written::of_rule(&Rule::read(note)?))),
+        match Instant::new(seconds) {
+            Some(instant) => Answer::Civil(instant.civil()),
+            None => Answer::refused(Refusal::PastCalendar),
         }
+    }
+
+    fn of_read(note: &[u8]) -> Answer
+        ensures { ReadAnswer (note_reads note.now) result }
+    {
+        match Rule::read(note) {
+            Ok(rule) => Answer::Rule(rule),
+            Err(fault) => Answer::refused(fault.into()),
+        }
+    }
+
+    fn of_write(note: &[u8]) -> Answer
+        ensures { WriteAnswer (note_reads note.now) note.now result }
+    {
+        match Rule::read(note) {
+            Ok(rule) => Answer::Note(Written::of_rule(&rule)),
+            Err(fault) => Answer::refused(fault.into()),
+        }
+    }
+
+    fn refused(refusal: Refusal) -> Answer
+        ensures { result ≡ Refused (report refusal) }
+    {
+        Answer::Refused(refusal.report())
     }
 }
 

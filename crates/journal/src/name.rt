@@ -25,24 +25,25 @@ pub enum CallName {
     When,
 }
 
+// A word is compared with one name after the other: those of calls that come often stand first.
 const ALL: [CallName; 17] = [
-    CallName::Open,
+    CallName::When,
+    CallName::Read,
+    CallName::Write,
+    CallName::Judge,
+    CallName::Request,
     CallName::Add,
     CallName::Withdraw,
     CallName::Link,
     CallName::Unlink,
-    CallName::Member,
     CallName::Present,
     CallName::Clear,
     CallName::Leave,
     CallName::Readmit,
-    CallName::Judge,
+    CallName::Member,
     CallName::Role,
-    CallName::Request,
-    CallName::Read,
-    CallName::Write,
     CallName::Cover,
-    CallName::When,
+    CallName::Open,
 ];
 
 // A word that is the name of no call.

@@ -70,6 +70,6 @@ impl<L: MemberList> TokenLayer<L> {
         ensures held { listed self.new.held ≡ [] }
         ensures meaning { Alike (⟦<TokenLayer<L> as MemberList>⟧.pairs self.new) (L.MemberList.pairs self.old.below) }
     {
-        self.held = Few::new();
+        self.held.clear();
     }
 }

@@ -6,6 +6,7 @@ use Rattle.bits.specs.declared.writer.BitWriter.{BitWriter}
 use Rattle.bits.specs.Digits.{laid}
 use Rattle.bits.specs.Writer.{held, target, end, Wrote}
 use Rattle.bits.proofs.DigitLaws.{length_bits}
+use Rattle.notes.specs.Told.{Fits}
 use Rattle.bits.proofs.Laying.{laid_nothing, laid_laid}
 
 pub wrote_then : {u v w : BitWriter} {s t : List ℕ} → end u ≤ 8 * length (held u) → Wrote u v s → Wrote v w t → Wrote u w (s ++ t)
@@ -19,6 +20,10 @@ wrote_then {u} {v} {w} {s} {t} h one two =
       size = two.size ∙ one.size;
       lent = two.lent ∙ one.lent;
     }
+
+-- what is left of the room for k bits and n more
+pub fits_after : {u v : BitWriter} {s : List ℕ} (k n : ℕ) → length s ≡ k → Wrote u v s → Fits u (k + n) → Fits v n
+fits_after k n l w h = omega (arith, w.moved, w.size)
 
 pub wrote_none : (w : BitWriter) → end w ≤ 8 * length (held w) → Wrote w w []
 wrote_none w h = record {

@@ -46,6 +46,10 @@ pub some_map : {X Y : Type 0} (p : Y → Bool) (f : X → Y) (xs : List X) → l
 some_map p f [] = refl
 some_map p f (x ∷ xs) = ap (λ b. p (f x) || b) (some_map p f xs)
 
+pub each_map : {X Y : Type 0} (p : Y → Bool) (f : X → Y) (xs : List X) → list_all p (map f xs) ≡ list_all (λ x. p (f x)) xs
+each_map p f [] = refl
+each_map p f (x ∷ xs) = ap (λ b. p (f x) && b) (each_map p f xs)
+
 none_map : {X Y : Type 0} (f : X → Y) (xs : List X) → none (map f xs) ≡ none xs
 none_map f [] = refl
 none_map f (x ∷ xs) = refl

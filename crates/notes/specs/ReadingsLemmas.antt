@@ -144,6 +144,13 @@ module _ {X : Type 0} (f : Reads X) (ds : List ℕ) where
   abbrev pub Sofar : ℕ → ℕ → ℕ → List X → ℕ → Type 0
   Sofar n p i xs q = times n f ds p ≡ mapped (λ ys. xs ++ ys) (times (n - i) f ds q)
 
+  mapped_same : (r : Result (List X × ℕ) Report) → r ≡ mapped (λ ys. [] ++ ys) r
+  mapped_same (Ok x) = refl
+  mapped_same (Err e) = refl
+
+  pub none_yet : (n p : ℕ) → Sofar n p 0 [] p
+  none_yet n p = let e : n ≡ n - 0 = omega arith in ap (λ k. times k f ds p) e ∙ mapped_same (times (n - 0) f ds p)
+
   shifted : (xs : List X) (x : X) (r : Result (List X × ℕ) Report)
       → mapped (λ ys. xs ++ ys) (mapped (λ (z : X × List X). z.0 ∷ z.1) (mapped (λ y. (x, y)) r)) ≡ mapped (λ ys. (xs ++ (x ∷ [])) ++ ys) r
   shifted xs x (Ok y) = (λ i. Ok (sym (append_assoc xs (x ∷ []) y.0) i, y.1))

@@ -5,7 +5,7 @@ use Rattle.notes.specs.Readings.{guard}
 use Rattle.notes.specs.declared.set.Set.{Set}
 
 -- the set whose digits spell the number
-abbrev pub spelt : {W : ℕ} → ℕ → Set W
+abbrev pub spelt : {W : ℕ} → ℕ → Set ℕ W
 spelt n = record { bits = n }
 
 -- v is in the set s

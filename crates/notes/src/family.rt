@@ -25,6 +25,13 @@ impl Family {
         }
     }
 
+    // Derived equality, by the definition that callers cite.
+    pub fn same(self, other: Family) -> bool
+        ensures { result ≡ same_family self other }
+    {
+        self == other
+    }
+
     pub(super) fn read(r: &mut BitReader) -> Result<Family, NoteFault>
         ensures { Read family_reads r.old result r.new }
     {

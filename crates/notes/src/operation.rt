@@ -43,7 +43,7 @@ impl Operation {
     }
 
     // Whether the operation is in the set.
-    pub(super) fn is_in(self, operations: &Set<6>) -> bool
+    pub(super) fn is_in(self, operations: &Set<u32, 6>) -> bool
         ensures { result ≡ has_operation operations.now.bits self }
     {
         operations.has(self.number())

@@ -31,7 +31,7 @@ pub enum Side {
 pub struct Head {
     side: Side,
     authenticated: bool,
-    operations: Set<6>,
+    operations: Set<u32, 6>,
     originators: usize,
     contexts: usize,
     child_types: usize,
@@ -42,7 +42,7 @@ pub struct Head {
 pub struct RuleParts {
     side: Side,
     authenticated: bool,
-    operations: Set<6>,
+    operations: Set<u32, 6>,
     originators: Few<Originator, 4>,
     child_types: Few<u16, 4>,
     contexts: Few<Context, 2>,

@@ -23,17 +23,17 @@ pub(super) mod words;
 // The sets of a clock's values and those of a date's are two structs of the same form: each names its own fields.
 #[derive(Clone, Copy, Default)]
 pub struct ClockSets {
-    seconds: Set<60>,
-    minutes: Set<60>,
-    hours: Set<24>,
+    seconds: Set<u64, 60>,
+    minutes: Set<u64, 60>,
+    hours: Set<u32, 24>,
 }
 
 #[derive(Clone, Copy, Default)]
 pub struct DateSets {
-    days: Set<31>,
-    months: Set<12>,
-    weekdays: Set<7>,
-    years: Set<100>,
+    days: Set<u32, 31>,
+    months: Set<u32, 12>,
+    weekdays: Set<u32, 7>,
+    years: Set<u128, 100>,
 }
 
 #[derive(Clone, Copy, Default)]

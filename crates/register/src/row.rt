@@ -94,9 +94,12 @@ impl RuleRow {
         self.held.as_ref().is_some_and(|rule| rule.is_named(name))
     }
 
+    // A row that is free is not written again: it is large.
     pub(super) fn mark_free(&mut self)
         ensures { self.new ≡ freed self.old }
     {
-        self.held = None;
+        if self.held.is_some() {
+            self.held = None;
+        }
     }
 }

@@ -14,6 +14,9 @@ pieces_there sep (b ∷ t) =
       | false ↦ (b ∷ h.0, h.1, ap (in_front b) h.2)
     ]
 
+pub length_in_front : (b : ℕ) (ps : List (List ℕ)) (p : List ℕ) (qs : List (List ℕ)) → ps ≡ p ∷ qs → length (in_front b ps) ≡ length ps
+length_in_front b ps p qs e = ap (λ l. length (in_front b l)) e ∙ sym (ap length e)
+
 -- a text without a separator is one piece
 pieces_whole : (sep : ℕ) (s : List ℕ) → AllByRecursion (λ b. b ≢ sep) s → pieces sep s ≡ s ∷ []
 unfolding pieces

@@ -1,5 +1,5 @@
 -- The steps of a match. Assumes nothing.
-use Rattle.std.proofs.Common.{◌≡◌, ℕ, suc, ◌+◌, ◌*◌, ◌<◌, ◌≤◌, Bool, true, false, not, ◌&&◌, ◌||◌, ◌≢◌, ◌⊎◌, List, [], ◌∷◌, ◌++◌, length, Some, None, Option, sym, refl, ap, ◌∙◌, subst, inl, inr, append_assoc, add-mul, mul-le-mul, arith, length-append, Bor}
+use Rattle.std.proofs.Common.{◌≡◌, ℕ, suc, ◌+◌, ◌*◌, ◌<◌, ◌≤◌, Bool, true, false, not, ◌&&◌, ◌||◌, ◌≢◌, ◌⊎◌, List, [], ◌∷◌, ◌++◌, length, sym, refl, ap, ◌∙◌, subst, inl, inr, append_assoc, add-mul, mul-le-mul, arith, Bor}
 use borrow.Author.Tests.{clash}
 use Rattle.std.proofs.ByRecursion.{All-push}
 use Rattle.std.proofs.lemmas.Bool.{eq-eqb, ne_eqb}
@@ -27,40 +27,40 @@ no_item [] h = refl
 no_item (c ∷ u) h = absurd (omega arith)
 
 -- a match with p and t left and the star s goes on, as well, with q and u left and the star r
-abbrev pub Onward : List ℕ → List ℕ → Option Star → List ℕ → List ℕ → Option Star → Type 0
+abbrev pub Onward : List ℕ → List ℕ → Star → List ℕ → List ℕ → Star → Type 0
 Onward p t s q u r =
     Passed q u r × ((matches q u || longer r) ≡ (matches p t || longer s)) × (tries q u r + length q < tries p t s + length p)
 
-module _ (p t : List ℕ) where
-  -- no more was tried than since the last star
-  tries_least : (s : Option Star) → Passed p t s → length t * (1 + length p) ≤ tries p t s
-  tries_least None h = omega arith
-  tries_least (Some s) (bs, l, ep, et) =
-      mul-le-mul (omega (arith, ap length et, length-append bs t)) (omega (arith, ap length ep, length-append bs p))
+-- a star with no text left makes no match
+pub nothing_longer : (s : Star) → s.text.now ≡ [] → longer s ≡ false
+unfolding further
+nothing_longer s e = ap (further (matches s.pattern.now)) e
 
-  -- a shorter pattern and a text that is no longer
+module _ (p t : List ℕ) where
+  -- a shorter pattern, a text that is no longer, and a star that is tried no more often
   fewer :
-      (s : Option Star) → Passed p t s → (q u : List ℕ) → length p ≡ suc (length q) → length u ≤ length t
-      → length u * (1 + length q) + length q < tries p t s + length p
-  fewer s h q u e le =
-      let least = tries_least s h in
+      (s r : Star) (q u : List ℕ) → length p ≡ suc (length q) → length u ≤ length t → length r.text.now * (1 + length r.pattern.now) ≤ tries p t s
+      → tries q u r + length q < tries p t s + length p
+  fewer s r q u e le least =
       let less : length u * (1 + length q) ≤ length t * (1 + length p) = mul-le-mul le (omega arith) in
       omega arith
 
-  taken_over : (s : Option Star) → Passed p t s → (q : List ℕ) → p ≡ 42 ∷ q → longer s ≡ true → matches p t ≡ true
-  taken_over None h q e l = absurd (clash l)
-  taken_over (Some s) (bs, lit, ep, et) q e l =
+  taken_over : (s : Star) → Passed p t s → (q : List ℕ) → p ≡ 42 ∷ q → longer s ≡ true → matches p t ≡ true
+  taken_over s (inl none) q e l = absurd (clash (sym (nothing_longer s none) ∙ l))
+  taken_over s (inr (bs, lit, ep, et)) q e l =
       let front = ep ∙ ap (λ x. bs ++ x) e in
       let same : further (matches s.pattern.now) s.text.now ≡ further (matches (bs ++ (42 ∷ q))) (bs ++ t) = (λ k. further (matches (front k)) (et k)) in
       ap (λ x. matches x t) e ∙ star_takes_over bs q t lit (sym same ∙ l)
 
-  pub at_star : (s : Option Star) → Passed p t s → (r : Star) → p ≡ 42 ∷ r.pattern.now → t ≡ r.text.now → Onward p t s r.pattern.now t (Some r)
-  at_star s h r e same = (
-    ([], tt, refl, sym same),
-    (λ k. matches r.pattern.now t || further (matches r.pattern.now) (sym same k))
-        ∙ sym (absorbed _ _ (taken_over s h r.pattern.now e) ∙ ap (λ x. matches x t) e ∙ matches_star r.pattern.now t),
-    fewer s h r.pattern.now r.text.now (ap length e) (omega (arith, ap length same)),
-  )
+  pub at_star : (s : Star) → Passed p t s → (r : Star) → p ≡ 42 ∷ r.pattern.now → t ≡ r.text.now → Onward p t s r.pattern.now t r
+  at_star s h r e same =
+      let least : length r.text.now * (1 + length r.pattern.now) ≤ length t * (1 + length p) =
+      mul-le-mul (omega (arith, ap length same)) (omega (arith, ap length e)) in (
+        inr ([], tt, refl, sym same),
+        (λ k. matches r.pattern.now t || further (matches r.pattern.now) (sym same k))
+            ∙ sym (absorbed _ _ (taken_over s h r.pattern.now e) ∙ ap (λ x. matches x t) e ∙ matches_star r.pattern.now t),
+        fewer s r r.pattern.now t (ap length e) (omega arith) (omega arith),
+      )
 
   module _ (b : ℕ) (q u : List ℕ) (ep : p ≡ b ∷ q) (et : t ≡ b ∷ u) (plain : b ≢ 42) where
     passed_byte : matches p t ≡ matches q u
@@ -69,25 +69,27 @@ module _ (p t : List ℕ) where
     one_more : (l v bs : List ℕ) → l ≡ b ∷ v → bs ++ l ≡ (bs ++ (b ∷ [])) ++ v
     one_more l v bs e = ap (λ x. bs ++ x) e ∙ sym (append_assoc bs (b ∷ []) v)
 
-    longer_stops : (s : Option Star) → Passed p t s → b ≡ 47 → longer s ≡ false
-    longer_stops None h e = refl
-    longer_stops (Some s) (bs, lit, fp, ft) e =
+    longer_stops : (s : Star) → Passed p t s → b ≡ 47 → longer s ≡ false
+    longer_stops s (inl none) e = nothing_longer s none
+    longer_stops s (inr (bs, lit, fp, ft)) e =
         (λ k. further (matches ((fp ∙ ap (λ x. bs ++ x) (ep ∙ ap (λ c. c ∷ q) e)) k)) ((ft ∙ ap (λ x. bs ++ x) (et ∙ ap (λ c. c ∷ u) e)) k))
         ∙ slash_stops bs q u lit
 
     shorter : length u ≤ length t
     shorter = omega (arith, ap length et)
 
-    pub at_slash : (s : Option Star) → Passed p t s → b ≡ 47 → Onward p t s q u None
-    at_slash s h e = (tt, (λ k. sym passed_byte k || sym (longer_stops s h e) k), fewer s h q u (ap length ep) shorter)
+    -- behind a slash a star with no text left takes the place of the last one
+    pub at_slash : (s r : Star) → Passed p t s → b ≡ 47 → r.text.now ≡ [] → Onward p t s q u r
+    at_slash s r h e none =
+        let least : length r.text.now * (1 + length r.pattern.now) ≡ 0 * (1 + length r.pattern.now) = ap (λ n. n * (1 + length r.pattern.now)) (ap length none) in
+        (inl none, (λ k. sym passed_byte k || (nothing_longer r none ∙ sym (longer_stops s h e)) k), fewer s r q u (ap length ep) shorter (omega arith))
 
-    pub at_other : (s : Option Star) → Passed p t s → b ≢ 47 → Onward p t s q u s
-    at_other None h n = (tt, (λ k. sym passed_byte k || false), fewer None h q u (ap length ep) shorter)
-    at_other (Some s) (bs, lit, fp, ft) n = (
-      (bs ++ (b ∷ []), All-push _ bs b lit (plain, n), fp ∙ one_more _ _ bs ep, ft ∙ one_more _ _ bs et),
-      ap (λ x. x || longer (Some s)) (sym passed_byte),
-      omega (arith, ap length ep),
-    )
+    pub at_other : (s : Star) → Passed p t s → b ≢ 47 → Onward p t s q u s
+    at_other s h n = (also h, ap (λ x. x || longer s) (sym passed_byte), fewer s s q u (ap length ep) shorter (omega arith))
+      where
+        also : Passed p t s → Passed q u s
+        also (inl none) = inl none
+        also (inr (bs, lit, fp, ft)) = inr (bs ++ (b ∷ []), All-push _ bs b lit (plain, n), fp ∙ one_more _ _ bs ep, ft ∙ one_more _ _ bs et)
 
   module _ (b : ℕ) (q : List ℕ) (ep : p ≡ b ∷ q) (plain : b ≢ 42) where
     pub fails_behind : length t ≡ 0 → matches p t ≡ false
@@ -96,7 +98,7 @@ module _ (p t : List ℕ) where
     pub fails_at : (c : ℕ) (u : List ℕ) → t ≡ c ∷ u → b ≢ c → matches p t ≡ false
     fails_at c u et other = (λ k. matches (ep k) (et k)) ∙ matches_byte b q (c ∷ u) plain ∙ next_other b c (matches q) u other
 
-  pub ends_together : (s : Option Star) → p ≡ [] → length t ≡ 0 → true ≡ (matches p t || longer s)
+  pub ends_together : (s : Star) → p ≡ [] → length t ≡ 0 → true ≡ (matches p t || longer s)
   unfolding matches
   ends_together s ep h = λ k. matches (sym ep k) (sym (no_item t h) k) || longer s
 
@@ -110,19 +112,19 @@ module _ (p t : List ℕ) where
 
   module _ (fails : matches p t ≡ false) where
     -- what the star could stand for at the end of the text or at a slash
-    no_longer : (s : Star) → (s.text.now ≡ []) ⊎ ((c : ℕ) × (u : List ℕ) × (s.text.now ≡ c ∷ u) × (c ≡ 47)) → longer (Some s) ≡ false
+    no_longer : (s : Star) → (s.text.now ≡ []) ⊎ ((c : ℕ) × (u : List ℕ) × (s.text.now ≡ c ∷ u) × (c ≡ 47)) → longer s ≡ false
     unfolding further
     no_longer s (inl e) = ap (further (matches s.pattern.now)) e
     no_longer s (inr (c, u, e, h)) = ap (further (matches s.pattern.now)) (e ∙ ap (λ b. b ∷ u) h)
 
     given_up :
         (s : Star) → (s.text.now ≡ []) ⊎ ((c : ℕ) × (u : List ℕ) × (s.text.now ≡ c ∷ u) × (c ≡ 47))
-        → false ≡ (matches p t || longer (Some s))
+        → false ≡ (matches p t || longer s)
     given_up s why = λ k. sym fails k || sym (no_longer s why) k
 
     again :
         (s r : Star) (c : ℕ) → s.text.now ≡ c ∷ r.text.now → c ≢ 47 → r.pattern.now ≡ s.pattern.now
-        → Onward p t (Some s) r.pattern.now r.text.now (Some r)
+        → Onward p t s r.pattern.now r.text.now r
     unfolding further
     again s r c e h same =
         let f = matches s.pattern.now in
@@ -132,14 +134,14 @@ module _ (p t : List ℕ) where
         ap (λ n. n * (1 + length s.pattern.now)) (omega (arith, ap length e)) in
         let split = add-mul 1 (length u) (1 + length s.pattern.now) in
         let times : length u * (1 + length r.pattern.now) ≡ length u * (1 + length s.pattern.now) = ap (λ q. length u * (1 + length q)) same in (
-          ([], tt, refl, refl),
+          inr ([], tt, refl, refl),
           ap (λ q. matches q u || further (matches q) u) same ∙ more ∙ ap (λ x. x || further f s.text.now) (sym fails),
           omega (arith, ap length same),
         )
 
 module _ (p t : Bor (List ℕ)) (fails : matches p.now t.now ≡ false) where
-  pub retried : (s : Star) (r : ControlFlow Bool Walk) → Lengthened s r → Stepped (record { pattern = p; text = t; star = Some s }) r
+  pub retried : (s : Star) (r : ControlFlow Bool Walk) → Lengthened s r → Stepped (record { pattern = p; text = t; star = s }) r
   retried s (Break b) (off, why) = off ∙ given_up p.now t.now fails s why
   retried s (Continue v) (c, e, h, same, star) =
-      subst (λ r. Onward p.now t.now (Some s) v.pattern.now v.text.now r) (sym star)
+      subst (λ r. Onward p.now t.now s v.pattern.now v.text.now r) (sym star)
       (again p.now t.now fails s (record { pattern = v.pattern; text = v.text }) c e h same)

@@ -4,6 +4,7 @@ pub mod Pieces
 pub mod Texts
 pub mod Alphabets
 pub mod TextValues
+pub mod PathFronts
 pub mod Grammar
 pub mod Matching
 pub mod Walks

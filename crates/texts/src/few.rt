@@ -82,4 +82,11 @@ impl<T: Copy, const N: usize> Few<T, N> {
         self.len = len + 1;
         Ok(())
     }
+
+    // Lets go of every item; what stood in their places stays and stands for nothing.
+    pub fn clear(&mut self)
+        ensures { listed self.new ≡ [] }
+    {
+        self.len = 0;
+    }
 }

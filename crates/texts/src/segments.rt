@@ -1,9 +1,8 @@
 // Segments, and paths of segments between slashes.
-ghost use Rattle.std.specs.Prelude.{◌≡◌, true, false, ◌∷◌, length, MatchOption};
-ghost use Rattle.std.specs.List.{list_all};
-ghost use Rattle.texts.specs.Pieces.{pieces};
+ghost use Rattle.std.specs.Prelude.{◌≡◌, ◌+◌, true, false, ◌&&◌, ◌∷◌, if◌then◌else◌, MatchOption, nat_eq, nat_le};
 ghost use Rattle.texts.specs.Texts.{segment, path, slash_then};
 ghost use Rattle.texts.specs.Alphabets.{allowed};
+ghost use Rattle.texts.specs.PathFronts.{extended};
 
 use super::alphabet::Alphabet;
 
@@ -16,26 +15,68 @@ pub(super) fn is_segment(text: &[u8], alphabet: Alphabet) -> bool
     !text.is_empty() & alphabet.has_all(text)
 }
 
-fn count_segments(text: &[u8]) -> usize
-    ensures { result ≡ length (pieces 47 text.now) }
+// Whether the byte may come next in a path; `inside` says that the last one belongs to a segment.
+// No segment is empty, so a slash comes only behind a segment.
+fn may_stand(b: u8, inside: bool, alphabet: Alphabet) -> bool
+    ensures { result ≡ (if nat_eq b 47 then inside else allowed alphabet b) }
 {
-    text.split(|b| *b == SLASH).count()
+    if b == SLASH { inside } else { alphabet.has(b) }
 }
 
-fn all_segments(text: &[u8], alphabet: Alphabet) -> bool
-    ensures { result ≡ list_all (segment (allowed alphabet)) (pieces 47 text.now) }
+// Whether a path with so many slashes has `least` to `most` segments: it has one more than slashes.
+fn has_segments(slashes: usize, least: usize, most: usize) -> bool
+    ensures { result ≡ (nat_le least (slashes + 1) && nat_le (slashes + 1) most) }
 {
-    text.split(|b| *b == SLASH)
-        .all(|piece| is_segment(piece, alphabet))
+    slashes < most && least <= slashes + 1
 }
 
-// Whether the text is `least` to `most` segments, joined by single slashes.
-#[tactic(auto, unfolding(crate::specs::Texts::path))]
+// The front of a path: its slashes, and whether a byte of a segment stands behind the last of them.
+#[derive(Clone, Copy)]
+struct PathFront {
+    slashes: usize,
+    inside: bool,
+}
+
+impl PathFront {
+    // With the byte that comes next, if it may stand there and no slash is too many.
+    fn extended(self, b: u8, alphabet: Alphabet, most: usize) -> Option<PathFront>
+        ensures { result ≡ extended (allowed alphabet) most b self }
+    {
+        if !may_stand(b, self.inside, alphabet) {
+            return None;
+        }
+        if b != SLASH {
+            return Some(PathFront {
+                slashes: self.slashes,
+                inside: true,
+            });
+        }
+        if self.slashes >= most {
+            return None;
+        }
+        Some(PathFront {
+            slashes: self.slashes + 1,
+            inside: false,
+        })
+    }
+}
+
+// Whether the text is `least` to `most` segments, joined by single slashes. One pass, which ends at the first byte that
+// may not stand.
 pub(super) fn is_path(text: &[u8], alphabet: Alphabet, least: usize, most: usize) -> bool
     ensures { result ≡ path (allowed alphabet) least most text.now }
 {
-    let count = count_segments(text);
-    least <= count && count <= most && all_segments(text, alphabet)
+    let start = PathFront {
+        slashes: 0,
+        inside: false,
+    };
+    let front = text
+        .iter()
+        .try_fold(start, |front, b| front.extended(*b, alphabet, most));
+    match front {
+        Some(front) => front.inside & has_segments(front.slashes, least, most),
+        None => false,
+    }
 }
 
 // What stands behind the slash at the front of the text, if there is one.

@@ -4,7 +4,7 @@ ghost use Rattle.std.specs.List.{flat_map};
 ghost use Rattle.bits.specs.Writer.{Wrote};
 ghost use Rattle.notes.specs.Notes.{rule_note, Filled};
 ghost use Rattle.notes.specs.Originators.{originator_of, originator_form};
-ghost use Rattle.notes.specs.Rules.{side_code, head_of, head_form, rule_of, rule_form};
+ghost use Rattle.notes.specs.Rules.{side_code, flag_code as code_of_flag, head_of, head_form, rule_of, rule_form};
 ghost use Rattle.notes.specs.Told.{Fits};
 
 use super::super::lists::write_list;
@@ -24,6 +24,13 @@ impl From<Side> for u128 {
     }
 }
 
+// A function, so that its contract says the number of a flag by the definition.
+fn flag_code(flag: bool) -> u128
+    ensures { result ≡ code_of_flag flag }
+{
+    u8::from(flag) as u128
+}
+
 impl Head {
     #[tactic(auto, using(crate::proofs::Room::room))]
     fn write(&self, w: &mut BitWriter)
@@ -31,7 +38,7 @@ impl Head {
         ensures { Wrote w.old w.new (head_form self.now) }
     {
         put(w, 1, u128::from(self.side));
-        put(w, 1, u8::from(self.authenticated) as u128);
+        put(w, 1, flag_code(self.authenticated));
         self.operations.write(w);
         put(w, 3, self.originators as u128);
         put(w, 2, self.contexts as u128);

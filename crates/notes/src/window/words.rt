@@ -2,7 +2,7 @@
 ghost use Rattle.std.specs.Prelude.{◌≡◌, ◌+◌, ◌-◌, ◌<◌, ◌≤◌, not, ◌&&◌, ◌||◌, ◌==◌};
 ghost use Rattle.notes.specs.Sets.{member};
 
-use super::super::set::Set;
+use super::super::set::{Digits, Set};
 use super::{ClockSets, DateSets, Window};
 use std::fmt;
 
@@ -48,11 +48,11 @@ const YEARS: Scale = Scale {
     first: 2000,
 };
 
-impl<const W: usize> Set<W> {
+impl<D: Digits, const W: usize> Set<D, W> {
     // Whether a run of neighbours in the set begins with `v`.
     fn opens(&self, v: u8) -> bool
         requires { (v < W) × (W ≤ 128) }
-        ensures { result ≡ (member W self.now.bits v && (v == 0 || not (member W self.now.bits (v - 1)))) }
+        ensures { result ≡ (member W (D.number self.now.bits) v && (v == 0 || not (member W (D.number self.now.bits) (v - 1)))) }
     {
         self.has(v) && (v == 0 || !self.has(v - 1))
     }
@@ -60,7 +60,7 @@ impl<const W: usize> Set<W> {
     // Whether a run of neighbours in the set ends with `v`.
     fn closes(&self, v: u8) -> bool
         requires { (v < W) × (W ≤ 128) }
-        ensures { result ≡ (member W self.now.bits v && (v + 1 == W || not (member W self.now.bits (v + 1)))) }
+        ensures { result ≡ (member W (D.number self.now.bits) v && (v + 1 == W || not (member W (D.number self.now.bits) (v + 1)))) }
     {
         self.has(v) && (v as usize + 1 == W || !self.has(v + 1))
     }

@@ -1,6 +1,6 @@
 // The match of a pattern with a text, byte by byte. Only the last star is ever tried again, so that the steps are at most
 // about the product of the lengths: what an earlier star could take instead, the last one can take too.
-ghost use Rattle.std.specs.Prelude.{◌≡◌, false, ◌≢◌, [], ◌∷◌, Some};
+ghost use Rattle.std.specs.Prelude.{◌≡◌, false, ◌≢◌, [], ◌∷◌};
 ghost use Rattle.texts.specs.Matching.{matches as matches_text};
 ghost use Rattle.texts.specs.Walks.{Sound, Stepped, Lengthened};
 
@@ -9,7 +9,8 @@ use std::ops::ControlFlow;
 
 const STAR: u8 = b'*';
 
-// The last star that was passed: the pattern behind it, and the text behind what it stands for.
+// The last star that was passed: the pattern behind it, and the text behind what it stands for. With no text left it can
+// stand for nothing more: so it is where no star was passed, or a slash behind it.
 #[derive(Clone, Copy)]
 pub(crate) struct Star<'a> {
     pattern: &'a [u8],
@@ -21,7 +22,7 @@ pub(crate) struct Star<'a> {
 pub(crate) struct Walk<'a> {
     pattern: &'a [u8],
     text: &'a [u8],
-    star: Option<Star<'a>>,
+    star: Star<'a>,
 }
 
 // A match goes on, or it ends with the answer.
@@ -71,7 +72,11 @@ impl<'a> Walk<'a> {
                     return self.retry();
                 }
                 // No star stands for a slash, so behind one the stars before it are settled.
-                let star = if b == SLASH { None } else { self.star };
+                let star = if b == SLASH {
+                    self.star.settled()
+                } else {
+                    self.star
+                };
                 ControlFlow::Continue(Walk {
                     pattern,
                     text,
@@ -99,22 +104,29 @@ impl<'a> Walk<'a> {
         requires { matches_text self.pattern.now self.text.now ≡ false }
         ensures { Stepped self.entry result }
     {
-        match self.star {
-            Some(star) => star.longer(),
-            None => ControlFlow::Break(false),
-        }
+        self.star.longer()
     }
 }
 
 impl<'a> Star<'a> {
     // The match goes on behind the star.
     fn onward(self) -> Walk<'a>
-        ensures { result ≡ record { pattern = self.entry.pattern; text = self.entry.text; star = Some self.entry } }
+        ensures { result ≡ record { pattern = self.entry.pattern; text = self.entry.text; star = self.entry } }
     {
         Walk {
             pattern: self.pattern,
             text: self.text,
-            star: Some(self),
+            star: self,
+        }
+    }
+
+    // The star that can stand for nothing more.
+    fn settled(self) -> Star<'a>
+        ensures { result.text.now ≡ [] }
+    {
+        Star {
+            pattern: self.pattern,
+            text: &self.text[..0],
         }
     }
 
@@ -142,10 +154,11 @@ impl<'a> Star<'a> {
 pub(crate) fn matches<'a>(pattern: &'a [u8], text: &'a [u8]) -> bool
     ensures { result ≡ matches_text pattern.now text.now }
 {
+    let star = Star { pattern, text };
     let mut walk = Walk {
         pattern,
         text,
-        star: None,
+        star: star.settled(),
     };
     loop {
         match walk.step() {

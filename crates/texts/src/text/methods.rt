@@ -13,10 +13,10 @@ impl<G: Grammar, const N: usize> Text<G, N> {
     pub fn new(src: &[u8]) -> Result<Text<G, N>, Unlawful>
         ensures { MatchResult result (λ x. (lawful_text N G.allowed src.now ≡ true) × (text_of x ≡ src.now)) (λ _. lawful_text N G.allowed src.now ≡ false) }
     {
-        let bytes = Few::of(src)?;
-        if !G::allows(src) {
+        if !Self::is_lawful(src) {
             return Err(Unlawful);
         }
+        let bytes = Few::of(src)?;
         Ok(Text {
             kind: PhantomData,
             bytes,

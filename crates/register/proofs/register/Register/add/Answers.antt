@@ -7,14 +7,14 @@ use Rattle.register.proofs.register.Register.add.Goals as goal
 
 pub returns-then-has_rule : goal.returns-then-has_rule
 returns-then-has_rule c =
-    rw c.into.ensures (add_taken (tables c.args.self.now) c.args.policy c.args.number c.in_ok-check.ensures c.args.note.now _ c.in_ok-rule.ensures.1 (sym c.if-has_rule.ensures))
+    rw c.into.ensures (add_taken (tables c.args.self.now) c.args.policy c.args.number c.in_ok-check.ensures c.args.note.now _ c.in-Ok.ensures.1 (sym c.if-has_rule.ensures))
 
 pub returns-in_err-i : goal.returns-in_err-i
 returns-in_err-i c =
     let told = err_from_is_err_and c.from_residual-in_err-i.result c.from_residual-in_err-i.ensures.1 in
     let full = c.in_err-i.ensures.ok_part in
     rw (told.1, told.2, cause_is _ _ _ c.in_err-i.ensures.value full)
-    (add_full (tables c.args.self.now) c.args.policy c.args.number c.in_ok-check.ensures c.args.note.now _ c.in_ok-rule.ensures.1 (sym c.if-has_rule.ensures) (sym c.find_free.ensures ∙ full))
+    (add_full (tables c.args.self.now) c.args.policy c.args.number c.in_ok-check.ensures c.args.note.now _ c.in-Ok.ensures.1 (sym c.if-has_rule.ensures) (sym c.find_free.ensures ∙ full))
 
 pub index_mut-requires : goal.index_mut-requires
 index_mut-requires c =
@@ -23,8 +23,8 @@ index_mut-requires c =
 pub returns : goal.returns
 returns c =
     let t = tables c.args.self.now in
-    let rule = c.in_ok-rule.rule in
-    let read = c.in_ok-rule.ensures in
+    let rule = c.in-Ok.rule in
+    let read = c.in-Ok.ensures in
     let row = c.new.ensures in
     let holds : Holding c.args.policy c.args.number c.args.note.now c.new.result = record {
       policy = ap (λ m. m.policy) row.name;
