@@ -31,10 +31,11 @@ impl Register {
         ensures cleared { Cleared rows.items targets.items (tables result) }
         ensures opened { Opened (record { home = text_of home; rows = vec_len rows; targets = vec_len targets }) (tables result) }
     {
-        let n = rows.len().min(USED_ROWS);
-        free_rows(&mut rows[0..n]);
+        // The targets first: where a caller has just made both tables, the compiler then writes them once and not twice.
         let m = targets.len().min(USED_TARGETS);
         clear_targets(&mut targets[0..m]);
+        let n = rows.len().min(USED_ROWS);
+        free_rows(&mut rows[0..n]);
         Register {
             home,
             rows,

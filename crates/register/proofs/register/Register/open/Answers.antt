@@ -14,12 +14,12 @@ returns c =
     let home = text_of c.args.home in
     let r : Tables = record {
       home = home;
-      rows = vec_items (with_items rows (c.free_rows.new.rows ++ drop (c.min-n.result - 0) c.deref_mut.result.now));
-      targets = vec_items (with_items targets (c.clear_targets.new.targets ++ drop (c.min-m.result - 0) c.deref_mut-2.result.now));
+      rows = vec_items (with_items rows (c.free_rows.new.rows ++ drop (c.min-n.result - 0) c.deref_mut-2.result.now));
+      targets = vec_items (with_items targets (c.clear_targets.new.targets ++ drop (c.min-m.result - 0) c.deref_mut.result.now));
     } in
     let cleared : Cleared (vec_items rows) (vec_items targets) r = record {
-      rows_free = cleared_part freed 256 _ rows _ _ (sym rows.ok.0) (omega (arith, c.min-n.ensures, c.len.ensures)) c.deref_mut.ensures.value c.free_rows.ensures;
-      targets_free = cleared_part (λ _. unlinked) 4096 _ targets _ _ (sym targets.ok.0) (omega (arith, c.min-m.ensures, c.len-2.ensures)) c.deref_mut-2.ensures.value c.clear_targets.ensures;
+      rows_free = cleared_part freed 256 _ rows _ _ (sym rows.ok.0) (omega (arith, c.min-n.ensures, c.len-2.ensures)) c.deref_mut-2.ensures.value c.free_rows.ensures;
+      targets_free = cleared_part (λ _. unlinked) 4096 _ targets _ _ (sym targets.ok.0) (omega (arith, c.min-m.ensures, c.len.ensures)) c.deref_mut.ensures.value c.clear_targets.ensures;
     } in
     record {
       cleared = cleared;
