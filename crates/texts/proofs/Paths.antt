@@ -78,6 +78,13 @@ too_many ok low high n inside t e =
 abbrev pub Sofar : (ℕ → Bool) → ℕ → ℕ → Bool → List ℕ → PathFront → Type 0
 Sofar ok low high whole t r = onward ok low high r.slashes r.inside t ≡ whole
 
+-- at the end of the text
+pub ended :
+    (ok : ℕ → Bool) (low high : ℕ) (whole : Bool) (o : Option PathFront) → MatchOption o (whole ≡ false) (λ r. Sofar ok low high whole [] r)
+    → MatchOption o (whole ≡ false) (λ r. whole ≡ (r.inside && within low high (r.slashes + 1)))
+ended ok low high whole None h = h
+ended ok low high whole (Some r) h = sym h ∙ onward_end ok low high r.slashes r.inside
+
 abbrev Turn : (ℕ → Bool) → ℕ → ℕ → Bool → ℕ → PathFront → Option PathFront → Type 0
 Turn ok low high whole b r next =
     MatchOption next ((t : List ℕ) → Sofar ok low high whole (b ∷ t) r → whole ≡ false) (λ s. (t : List ℕ) → Sofar ok low high whole (b ∷ t) r → Sofar ok low high whole t s)

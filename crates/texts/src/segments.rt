@@ -1,5 +1,5 @@
 // Segments, and paths of segments between slashes.
-ghost use Rattle.std.specs.Prelude.{◌≡◌, ◌+◌, true, false, ◌&&◌, ◌∷◌, if◌then◌else◌, MatchOption, nat_eq, nat_le};
+ghost use Rattle.std.specs.Prelude.{◌≡◌, ℕ, ◌+◌, true, false, ◌&&◌, ◌∷◌, if◌then◌else◌, MatchOption, nat_eq, nat_le};
 ghost use Rattle.texts.specs.Texts.{segment, path, slash_then};
 ghost use Rattle.texts.specs.Alphabets.{allowed};
 ghost use Rattle.texts.specs.PathFronts.{extended};
@@ -61,19 +61,23 @@ impl PathFront {
     }
 }
 
-// Whether the text is `least` to `most` segments, joined by single slashes. One pass, which ends at the first byte that
-// may not stand.
-pub(super) fn is_path(text: &[u8], alphabet: Alphabet, least: usize, most: usize) -> bool
-    ensures { result ≡ path (allowed alphabet) least most text.now }
+// The front that the whole text makes, in one pass that ends at the first byte that may not stand.
+fn front_of(text: &[u8], alphabet: Alphabet, most: usize) -> Option<PathFront>
+    ensures { (least : ℕ) → MatchOption result (path (allowed alphabet) least most text.now ≡ false) (λ r. path (allowed alphabet) least most text.now ≡ (r.inside && (nat_le least (r.slashes + 1) && nat_le (r.slashes + 1) most))) }
 {
     let start = PathFront {
         slashes: 0,
         inside: false,
     };
-    let front = text
-        .iter()
-        .try_fold(start, |front, b| front.extended(*b, alphabet, most));
-    match front {
+    text.iter()
+        .try_fold(start, |front, b| front.extended(*b, alphabet, most))
+}
+
+// Whether the text is `least` to `most` segments, joined by single slashes.
+pub(super) fn is_path(text: &[u8], alphabet: Alphabet, least: usize, most: usize) -> bool
+    ensures { result ≡ path (allowed alphabet) least most text.now }
+{
+    match front_of(text, alphabet, most) {
         Some(front) => front.inside & has_segments(front.slashes, least, most),
         None => false,
     }
